@@ -1,0 +1,5 @@
+pub mod Digits
+pub mod Cuts
+pub mod TextBytes
+pub mod WordsSoFar
+pub mod LinesSoFar

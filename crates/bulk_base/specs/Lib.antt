@@ -1,0 +1,5 @@
+pub mod Text
+pub mod Path
+pub mod Words
+pub mod Number
+pub mod Lines

@@ -1,0 +1,18 @@
+//! Texts, paths and lists in form: the words that every layer of the builder speaks in.
+#![tactic(auto)]
+
+mod file;
+mod line;
+mod numeral;
+mod path;
+mod sequence;
+mod text;
+mod word;
+
+pub use file::{FileItem, Files, Switch, Switches};
+pub use line::{Span, Spans, lines};
+pub use numeral::{decimal, number};
+pub use path::{Path, PathError, Paths};
+pub use sequence::{Bytes, NoMemory, Sequence};
+pub use text::{Text, TextError, Texts};
+pub use word::words;

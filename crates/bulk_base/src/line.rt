@@ -1,0 +1,59 @@
+// The lines of a file.
+ghost use Rattle.std.specs.Prelude.{◌≡◌, ◌<◌, ◌≤◌, ◌-◌, length, take, drop, All, IfOk, OnOk, ◌++◌, ◌∷◌, []};
+ghost use Rattle.std.specs.Str.Lines.{lines as lines_of, strip_carriage_return};
+ghost use Rattle.bulk_base.specs.Lines.{cut_at, IsSpanWithin};
+
+use crate::sequence::{NoMemory, Sequence};
+use std::alloc::Global;
+
+/// A part of a file: the places from `from` up to `to`, from 0.
+#[derive(Clone, Copy, Debug, PartialEq, Eq)]
+pub struct Span {
+    /// Where the part begins.
+    pub from: usize,
+    /// The place behind the part's last byte.
+    pub to: usize,
+}
+
+/// A list of spans.
+pub type Spans = Sequence<Span>;
+
+fn end_of_line(bytes: &[u8], start: usize, newline: usize) -> usize
+    requires order { start ≤ newline }
+    requires within { newline ≤ length bytes.now }
+    ensures order { start ≤ result }
+    ensures within { result ≤ newline }
+    ensures text { take (result - start) (drop start bytes.now) ≡ strip_carriage_return (take (newline - start) (drop start bytes.now)) }
+{
+    if start < newline && bytes[newline - 1] == b'\r' {
+        newline - 1
+    } else {
+        newline
+    }
+}
+
+/// The lines of a file without their line feed, and without one carriage return before it; a last line may lack its
+/// line feed, and keeps its carriage return then. One pass over the bytes.
+pub fn lines(alloc: Global, bytes: &[u8]) -> Result<Spans, NoMemory>
+    ensures text { IfOk result (λ spans. cut_at bytes.now spans ≡ lines_of bytes.now) }
+    ensures within { IfOk result (λ spans. All (IsSpanWithin bytes.now) spans) }
+{
+    let mut found = Sequence::new(alloc);
+    let mut start = 0;
+    for at in 0..bytes.len() {
+        if bytes[at] == b'\n' {
+            found.push(Span {
+                from: start,
+                to: end_of_line(bytes, start, at),
+            })?;
+            start = at + 1;
+        }
+    }
+    if start < bytes.len() {
+        found.push(Span {
+            from: start,
+            to: bytes.len(),
+        })?;
+    }
+    Ok(found)
+}
