@@ -7,6 +7,7 @@ mod numeral;
 mod path;
 mod sequence;
 mod text;
+mod text_map;
 mod word;
 
 pub use file::{FileItem, Files, Switch, Switches};
@@ -15,4 +16,5 @@ pub use numeral::{decimal, number};
 pub use path::{Path, PathError, Paths};
 pub use sequence::{Bytes, NoMemory, Sequence};
 pub use text::{Text, TextError, Texts};
+pub use text_map::TextMap;
 pub use word::words;

@@ -1,0 +1,69 @@
+-- A tree map with texts as keys, read as a finite map.
+use Rattle.std.proofs.Common.{◌≡◌, ℕ, Bool, true, false, List, [], ◌∷◌, ap, subst, sym, ◌∙◌, refl}
+use Rattle.std.specs.Prelude.{Option, Some, None, map, cond, ◌&&◌, is_some, T}
+use Rattle.std.specs.declared.cmp.Ordering.{Ordering}
+use Rattle.std.specs.declared.cmp.Ordering.TheVariants.{Less, Equal, Greater}
+use Rattle.std.specs.Ordering.{nat_cmp, is_eq, is_lt, eq_by_cmp}
+use Rattle.std.specs.Cmp.{eq_by_cmp_equiv}
+use Rattle.std.specs.Cmp.Lexicographic.{slice_cmp, nat_list_cmp_total}
+use Rattle.std.specs.Map.{lookup}
+use Rattle.std.specs.List.{AllByRecursion}
+use Rattle.std.specs.List.Sorted.{IsStrictlySortedBy}
+use Rattle.std.specs.BTreeMap as tree
+use Rattle.std.specs.FinMap as map
+use Rattle.std.specs.FinMap.{FinMap, IsAntisymmetric, nat_cmp-IsAntisymmetric, slice_cmp-IsAntisymmetric, same_map, get-from_entries, get-insert, get-remove, get-from_sorted, entries-from_sorted, from_entries, from_sorted, entries, get, insert, remove}
+use Rattle.std.specs.FinMap.Entries.{find, is_sorted, below_all}
+
+abbrev order : List ℕ → List ℕ → Ordering
+order = slice_cmp nat_cmp
+
+same_keys : IsAntisymmetric order
+same_keys = slice_cmp-IsAntisymmetric nat_cmp-IsAntisymmetric
+
+abbrev pub view : {X : Type 0} → List (List ℕ × X) → FinMap order X
+view es = from_entries es
+
+pub lookup-find : {X : Type 0} (q : List ℕ) (es : List (List ℕ × X)) → lookup (tree.is_at (order q)) es ≡ find order q es
+lookup-find q [] = refl
+lookup-find q (e ∷ es) = ap (cond (is_eq (order q e.0)) (Some e.1)) (lookup-find q es)
+
+pub get-view : {X : Type 0} (q : List ℕ) (m : tree.BTreeMap (List ℕ) X) → tree.get order m q ≡ get (view m.entries) q
+get-view q m = lookup-find q m.entries ∙ sym (get-from_entries nat_list_cmp_total m.entries q)
+
+turned : (k q : List ℕ) → tree.is_at (order k) q ≡ eq_by_cmp order q k
+turned k q = (eq_by_cmp_equiv nat_list_cmp_total).symm k q
+
+pub view-insert : {X : Type 0} (m n : tree.BTreeMap (List ℕ) X) (k : List ℕ) (v : X) → tree.Updates order m n k (Some v) → view n.entries ≡ insert (view m.entries) k v
+view-insert m n k v h = same_map nat_list_cmp_total same_keys _ _ (λ q.
+    sym (get-view q n) ∙ h.0 q ∙ ap (λ b. cond b (Some v) (tree.get order m q)) (turned k q) ∙ ap (cond (eq_by_cmp order q k) (Some v)) (get-view q m)
+    ∙ sym (get-insert nat_list_cmp_total (view m.entries) k v q))
+
+pub view-remove : {X : Type 0} (m n : tree.BTreeMap (List ℕ) X) (k : List ℕ) → tree.UpdatesBy order (order k) m n None → view n.entries ≡ remove (view m.entries) k
+view-remove m n k h = same_map nat_list_cmp_total same_keys _ _ (λ q.
+    sym (get-view q n) ∙ h.0 q ∙ ap (λ b. cond b None (tree.get order m q)) (turned k q) ∙ ap (cond (eq_by_cmp order q k) None) (get-view q m)
+    ∙ sym (get-remove nat_list_cmp_total (view m.entries) k q))
+
+-- keys that strictly rise are the keys of the finite map
+below_all-from : {X : Type 0} (k : List ℕ) (es : List (List ℕ × X)) → AllByRecursion (λ y. order k y ≡ Less) (map (λ e. e.0) es) → below_all order k es ≡ true
+below_all-from k [] h = refl
+below_all-from k (e ∷ es) h = ap (λ o. is_lt o && below_all order k es) h.0 ∙ below_all-from k es h.1
+
+pub is_sorted-from : {X : Type 0} (es : List (List ℕ × X)) → IsStrictlySortedBy order (map (λ e. e.0) es) → is_sorted order es ≡ true
+unfolding IsStrictlySortedBy
+is_sorted-from [] h = refl
+is_sorted-from (e ∷ es) h = ap (λ b. b && is_sorted order es) (below_all-from e.0 es h.0) ∙ is_sorted-from es h.1
+
+T-from : {b : Bool} → b ≡ true → T b
+T-from {b} e = subst T (sym e) tt
+
+pub entries-view : {X : Type 0} (es : List (List ℕ × X)) → IsStrictlySortedBy order (map (λ e. e.0) es) → entries (view es) ≡ es
+entries-view es h =
+    let sorted : T (is_sorted order es) = T-from (is_sorted-from es h) in
+    ap entries (same_map nat_list_cmp_total same_keys (view es) (from_sorted es) (λ q. get-from_entries nat_list_cmp_total es q ∙ sym (get-from_sorted order es q sorted)))
+    ∙ entries-from_sorted order es sorted
+
+pub keys-view : {X : Type 0} (m : tree.BTreeMap (List ℕ) X) → tree.IsOrdered order m → map.keys (view m.entries) ≡ tree.keys m
+keys-view m h = ap (map (λ e. e.0)) (entries-view m.entries h)
+
+pub contains-view : {X : Type 0} (m : tree.BTreeMap (List ℕ) X) (k : List ℕ) → is_some (tree.get order m k) ≡ map.contains_key (view m.entries) k
+contains-view m k = ap is_some (get-view k m)
