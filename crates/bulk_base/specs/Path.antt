@@ -1,6 +1,6 @@
 -- Paths in form: parts joined by `/` (docs/FORMATS.md).
-use Rattle.std.specs.Prelude.{ℕ, Bool, not, ◌&&◌, ◌==◌, nat_lt, nat_le, List, [], ◌∷◌, ◌++◌, length, IsTrue, bytes_eq}
-use Rattle.std.specs.List.{list_all, slice_split}
+use Rattle.std.specs.Prelude.{ℕ, Bool, not, ◌&&◌, ◌||◌, ◌==◌, nat_eq, nat_lt, nat_le, List, [], ◌∷◌, ◌++◌, length, IsTrue, bytes_eq}
+use Rattle.std.specs.List.{list_all, slice_split, starts_with}
 
 abbrev pub is_slash : ℕ → Bool
 is_slash b = b == 47
@@ -23,3 +23,11 @@ IsPath path = IsTrue (is_path path)
 -- one path below another, a slash between
 abbrev pub joined : List ℕ → List ℕ → List ℕ
 joined folder rest = folder ++ (47 ∷ rest)
+
+-- whether a path stands below a folder
+abbrev pub is_below : List ℕ → List ℕ → Bool
+is_below folder path = starts_with nat_eq path (joined folder [])
+
+-- whether two paths cannot both be those of files: they are equal, or one is a folder of the other
+abbrev pub collides : List ℕ → List ℕ → Bool
+collides a b = bytes_eq a b || is_below a b || is_below b a
