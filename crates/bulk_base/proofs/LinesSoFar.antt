@@ -1,10 +1,9 @@
 -- What the loop over a file's bytes keeps while it cuts the file into lines.
-use Rattle.std.proofs.Common.{◌≡◌, ◌≤◌, ◌<◌, ◌+◌, ◌-◌, ℕ, Bool, true, false, List, [], ◌∷◌, ◌++◌, length, get_or, take, drop, arith, ap, sym, ◌∙◌, refl, inl, inr, eq-eqb, zero, suc}
-use Rattle.std.specs.Prelude.{map, All, ◌==◌, cond}
-use Rattle.std.specs.List.{slice_split, count_by}
+use Rattle.std.proofs.Common.{◌≡◌, ◌≤◌, ◌<◌, ◌+◌, ◌-◌, ℕ, Bool, true, false, List, [], ◌∷◌, ◌++◌, length, get_or, take, drop, arith, ap, sym, ◌∙◌, refl, inl, inr, eq-eqb, ne_eqb, append-nil, zero, suc}
+use Rattle.std.specs.Prelude.{All, ◌==◌, cond}
+use Rattle.std.specs.List.{slice_split}
 use Rattle.std.specs.Str.Lines.{lines, lines_of_parts, strip_carriage_return}
-use Rattle.std.proofs.lemmas.Grind.{common_steps}
-use Rattle.std.proofs.lemmas.List.{append_assoc, take_all, take-take, length-take, length-take-le, length-drop, map-append, get_or-take, get_or-drop}
+use Rattle.std.proofs.lemmas.List.{append_assoc, take_all, length-drop, map-append}
 use Rattle.std.proofs.lemmas.List.Elements.{All-append}
 use Rattle.std.proofs.lemmas.List.Splits.{length-slice_split}
 use Rattle.bulk_base.specs.declared.line.Span.{Span}
@@ -37,20 +36,12 @@ one_within : (bytes : List ℕ) (span : Span) → IsSpanWithin bytes span → Al
 one_within bytes span h zero d l = h
 one_within bytes span h (suc k) d l = absurd (omega arith)
 
-pub lines_begin : (bytes : List ℕ) (found : List Span) → found ≡ [] → LinesSoFar bytes found 0 0
-lines_begin bytes found e = record {
-  order = omega arith;
-  inside = λ k from below. absurd (omega arith);
-  within = λ k d l. absurd (omega (arith, ap length e));
-  lines = ap (λ f. cut_at bytes f ++ lines_of_parts (slice_split is_newline_byte bytes)) e
-}
-
 pub lines_go_on : (bytes : List ℕ) (found : List Span) (start at : ℕ) → is_newline_byte (get_or bytes at 0) ≡ false → LinesSoFar bytes found start at → LinesSoFar bytes found start (at + 1)
 lines_go_on bytes found start at here so_far = record {
   order = omega arith;
   inside = λ k from below. elim (below_or_at k at below) [ inl lt ↦ so_far.inside k from lt | inr same ↦ rw same here ];
   within = so_far.within;
-  lines = so_far.lines
+  lines = so_far.lines;
 }
 
 pub lines_cut : (bytes : List ℕ) (found more : List Span) (span : Span) (start at : ℕ) → at < length bytes → is_newline_byte (get_or bytes at 0) ≡ true
@@ -63,35 +54,44 @@ lines_cut bytes found more span start at l here e span_within text so_far = reco
   inside = λ k from below. absurd (omega arith);
   within = rw e (All-append (IsSpanWithin bytes) found (span ∷ []) so_far.within (one_within bytes span span_within));
   lines =
-    let rest : List (List ℕ) = slice_split is_newline_byte (drop (at + 1) bytes) in
-    let some : 0 < length rest = omega (arith, length-slice_split is_newline_byte (drop (at + 1) bytes)) in
-    let cut = slice_split_here is_newline_byte bytes start at so_far.order l so_far.inside here in
-    ap (λ m. cut_at bytes m ++ lines_of_parts rest) e
-    ∙ one_more bytes found span _ (lines_of_parts rest) text
-    ∙ ap (λ x. cut_at bytes found ++ x) (sym (lines_of_parts-cons (take (at - start) (drop start bytes)) rest some) ∙ ap lines_of_parts (sym cut))
-    ∙ so_far.lines
+      let rest : List (List ℕ) = slice_split is_newline_byte (drop (at + 1) bytes) in
+      let some : 0 < length rest = omega (arith, length-slice_split is_newline_byte (drop (at + 1) bytes)) in
+      let cut = slice_split_here is_newline_byte bytes start at so_far.order l so_far.inside here in
+      ap (λ m. cut_at bytes m ++ lines_of_parts rest) e
+      ∙ one_more bytes found span _ (lines_of_parts rest) text
+      ∙ ap (λ x. cut_at bytes found ++ x) (sym (lines_of_parts-cons (take (at - start) (drop start bytes)) rest some) ∙ ap lines_of_parts (sym cut))
+      ∙ so_far.lines;
 }
 
 -- what is left at the end is the last line, or nothing
-pub last_line : (bytes : List ℕ) (found : List Span) (start at : ℕ) → at ≡ length bytes → LinesSoFar bytes found start at
+last_line : (bytes : List ℕ) (found : List Span) (start at : ℕ) → at ≡ length bytes → LinesSoFar bytes found start at
     → cut_at bytes found ++ cond (length (drop start bytes) == 0) [] (drop start bytes ∷ []) ≡ lines bytes
 last_line bytes found start at e so_far =
     let inside : NonePasses is_newline_byte bytes start (length bytes) = λ k from below. so_far.inside k from (omega arith) in
     ap (λ x. cut_at bytes found ++ lines_of_parts x) (sym (slice_split_last is_newline_byte bytes start inside)) ∙ so_far.lines
 
-pub strip-piece : (bytes : List ℕ) (start newline : ℕ) → start < newline → newline ≤ length bytes → get_or bytes (newline - 1) 0 ≡ 13
-    → take (newline - 1 - start) (drop start bytes) ≡ strip_carriage_return (take (newline - start) (drop start bytes))
-strip-piece bytes start newline o w cr =
-    let piece : List ℕ = take (newline - start) (drop start bytes) in
-    let size : length piece ≡ newline - start = length-take-le (newline - start) (drop start bytes) (omega (arith, length-drop start bytes)) in
-    let last : get_or piece (length piece - 1) 0 ≡ 13 = ? in
-    let test : (get_or piece (length piece - 1) 0 == 13) ≡ true = eq-eqb _ _ last in
-    let short : length piece - 1 ≡ newline - 1 - start = omega arith in
-    sym (ap (λ b. cond b (take (length piece - 1) piece) piece) test ∙ ap (λ n. take n piece) short ∙ take-take (newline - 1 - start) (newline - start) (drop start bytes) (omega arith))
+-- a last line without a line feed is kept whole
+pub lines_end : (bytes : List ℕ) (found more : List Span) (span : Span) (start at : ℕ) → at ≡ length bytes → start < length bytes
+    → span.from ≡ start → span.to ≡ length bytes → more ≡ found ++ span ∷ []
+    → LinesSoFar bytes found start at → (cut_at bytes more ≡ lines bytes) × All (IsSpanWithin bytes) more
+lines_end bytes found more span start at at_end short from to e so_far =
+    let size : length (drop start bytes) ≡ length bytes - start = length-drop start bytes in
+    let filled : (length (drop start bytes) == 0) ≡ false = ne_eqb (length (drop start bytes)) 0 (λ z. omega arith) in
+    let whole : bytes_at bytes span ≡ drop start bytes = rw (from, to) (take_all _ _ (omega arith)) in
+    let text : cut_at bytes (found ++ span ∷ []) ≡ lines bytes =
+    map-append (bytes_at bytes) found (span ∷ [])
+    ∙ ap (λ x. cut_at bytes found ++ (x ∷ [])) whole
+    ∙ sym (ap (λ b. cut_at bytes found ++ cond b [] (drop start bytes ∷ [])) filled)
+    ∙ last_line bytes found start at at_end so_far in
+    let within : All (IsSpanWithin bytes) (found ++ span ∷ []) =
+    All-append (IsSpanWithin bytes) found (span ∷ []) so_far.within (one_within bytes span (record { order = omega arith; within = omega arith })) in
+    rw e (text, within)
 
-pub keep-piece : (bytes : List ℕ) (start newline : ℕ) → start ≤ newline → newline ≤ length bytes → (start < newline → (get_or bytes (newline - 1) 0 == 13) ≡ false)
-    → take (newline - start) (drop start bytes) ≡ strip_carriage_return (take (newline - start) (drop start bytes))
-keep-piece bytes start newline o w no_cr =
-    let piece : List ℕ = take (newline - start) (drop start bytes) in
-    let test : (get_or piece (length piece - 1) 0 == 13) ≡ false = ? in
-    sym (ap (λ b. cond b (take (length piece - 1) piece) piece) test)
+-- nothing is left behind the last line feed
+pub lines_done : (bytes : List ℕ) (found : List Span) (start at : ℕ) → at ≡ length bytes → length bytes ≤ start
+    → LinesSoFar bytes found start at → cut_at bytes found ≡ lines bytes
+lines_done bytes found start at at_end long so_far =
+    let none : (length (drop start bytes) == 0) ≡ true = eq-eqb _ _ (omega (arith, length-drop start bytes)) in
+    sym (append-nil (cut_at bytes found))
+    ∙ sym (ap (λ b. cut_at bytes found ++ cond b [] (drop start bytes ∷ [])) none)
+    ∙ last_line bytes found start at at_end so_far

@@ -1,9 +1,8 @@
 -- What the loop over a text's bytes keeps while it cuts the text into words.
-use Rattle.std.proofs.Common.{◌≡◌, ◌≤◌, ◌<◌, ◌+◌, ◌-◌, ℕ, true, false, List, [], ◌∷◌, ◌++◌, length, get_or, take, drop, arith, inl, inr, ap, sym, ◌∙◌, refl}
+use Rattle.std.proofs.Common.{◌≡◌, ◌≤◌, ◌<◌, ◌+◌, ◌-◌, ℕ, true, false, List, [], ◌∷◌, ◌++◌, length, get_or, take, drop, arith, inl, inr, ap, sym, ◌∙◌}
 use Rattle.std.specs.Prelude.{filter, ◌⊎◌}
 use Rattle.std.specs.List.{slice_split}
 use Rattle.std.specs.Str.{IsCharBoundary, IsUtf8}
-use Rattle.std.proofs.lemmas.Grind.{common_steps}
 use Rattle.std.proofs.lemmas.List.{append_assoc, take_all, length-drop}
 use Rattle.std.proofs.lemmas.List.Elements.{filter-append}
 use Rattle.std.proofs.lemmas.Str.{IsCharBoundary-after_ascii, IsCharBoundary-start}
@@ -31,7 +30,7 @@ words_go_on bytes found start at here so_far = record {
   order = omega arith;
   inside = λ k from below. elim (below_or_at k at below) [ inl lt ↦ so_far.inside k from lt | inr same ↦ rw same here ];
   boundary = so_far.boundary;
-  words = so_far.words
+  words = so_far.words;
 }
 
 -- a blank at `at` ends a piece
@@ -43,13 +42,13 @@ words_cut bytes found more start at utf8 l here e so_far = record {
   inside = λ k from below. absurd (omega arith);
   boundary = IsCharBoundary-after_ascii bytes at utf8 l (blank_is_ascii _ here);
   words =
-    let cut = slice_split_here is_blank bytes start at so_far.order l so_far.inside here in
-    let rest : List (List ℕ) = slice_split is_blank (drop (at + 1) bytes) in
-    let piece : List (List ℕ) = take (at - start) (drop start bytes) ∷ [] in
-    ap (λ m. m ++ filter is_filled rest) e
-    ∙ append_assoc found (filter is_filled piece) (filter is_filled rest)
-    ∙ ap (λ x. found ++ x) (sym (filter-append is_filled piece rest) ∙ ap (filter is_filled) (sym cut))
-    ∙ so_far.words
+      let cut = slice_split_here is_blank bytes start at so_far.order l so_far.inside here in
+      let rest : List (List ℕ) = slice_split is_blank (drop (at + 1) bytes) in
+      let piece : List (List ℕ) = take (at - start) (drop start bytes) ∷ [] in
+      ap (λ m. m ++ filter is_filled rest) e
+      ∙ append_assoc found (filter is_filled piece) (filter is_filled rest)
+      ∙ ap (λ x. found ++ x) (sym (filter-append is_filled piece rest) ∙ ap (filter is_filled) (sym cut))
+      ∙ so_far.words;
 }
 
 -- at the end what is left is the last piece
@@ -68,5 +67,5 @@ words_begin bytes found utf8 e = record {
   order = omega arith;
   inside = λ k from below. absurd (omega arith);
   boundary = IsCharBoundary-start bytes utf8;
-  words = ap (λ f. f ++ filter is_filled (slice_split is_blank bytes)) e
+  words = ap (λ f. f ++ filter is_filled (slice_split is_blank bytes)) e;
 }

@@ -10,9 +10,9 @@ use std::alloc::Global;
 #[derive(Clone, Copy, Debug, PartialEq, Eq)]
 pub struct Span {
     /// Where the part begins.
-    pub from: usize,
+    pub from: u64,
     /// The place behind the part's last byte.
-    pub to: usize,
+    pub to: u64,
 }
 
 /// A list of spans.
@@ -43,16 +43,16 @@ pub fn lines(alloc: Global, bytes: &[u8]) -> Result<Spans, NoMemory>
     for at in 0..bytes.len() {
         if bytes[at] == b'\n' {
             found.push(Span {
-                from: start,
-                to: end_of_line(bytes, start, at),
+                from: start as u64,
+                to: end_of_line(bytes, start, at) as u64,
             })?;
             start = at + 1;
         }
     }
     if start < bytes.len() {
         found.push(Span {
-            from: start,
-            to: bytes.len(),
+            from: start as u64,
+            to: bytes.len() as u64,
         })?;
     }
     Ok(found)

@@ -8,9 +8,8 @@ ghost use Rattle.bulk_base.specs.declared.text.TextError.TheVariants.{NoMemory a
 use crate::sequence::{NoMemory, Sequence};
 use std::alloc::{AllocError, AllocFailed, Global};
 use std::cmp::Ordering;
-use std::fmt;
 use std::marker::Model;
-use std::str;
+use std::{fmt, str};
 
 /// Why bytes gave no text.
 #[derive(Clone, Copy, Debug, PartialEq, Eq)]

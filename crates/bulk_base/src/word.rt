@@ -13,7 +13,13 @@ fn is_blank(byte: u8) -> bool
     byte == b' ' || byte == b'\t'
 }
 
-fn keep_piece(alloc: Global, text: &Text, start: usize, end: usize, found: &mut Texts) -> Result<(), NoMemory>
+fn keep_piece(
+    alloc: Global,
+    text: &Text,
+    start: usize,
+    end: usize,
+    found: &mut Texts,
+) -> Result<(), NoMemory>
     requires order { start ≤ end }
     requires within { end ≤ length text.now }
     requires starts { IsCharBoundary text.now start }

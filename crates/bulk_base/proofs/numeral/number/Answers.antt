@@ -1,4 +1,4 @@
-use Rattle.std.proofs.Common.{◌∙◌, sym, ap, rules}
+use Rattle.std.proofs.Common.{◌∙◌, sym, ap}
 use Rattle.bulk_base.proofs.Digits.{number_parses}
 use Rattle.bulk_base.specs.Number.{number_of, is_number}
 use Rattle.bulk_base.proofs.numeral.number.Goals as goal

@@ -1,5 +1,5 @@
-use Rattle.std.proofs.Common.{◌≡◌, ◌<◌, ◌∙◌, ap, sym, rules, length, get_or, arith, Bool, true, false}
-use Rattle.bulk_base.specs.Words.{words_of, is_blank}
+use Rattle.std.proofs.Common.{◌≡◌, ◌<◌, ◌∙◌, ap, sym, length, get_or, arith}
+use Rattle.bulk_base.specs.Words.{is_blank}
 use Rattle.bulk_base.proofs.WordsSoFar.{words_begin, words_cut, words_go_on, words_end}
 use Rattle.bulk_base.proofs.word.words.Goals as goal
 use Rattle.bulk_base.proofs.word.words.Goals.{then-is_blank+in_ok-keep_piece, else-is_blank}
@@ -12,9 +12,10 @@ loop-at-preserved c =
     let here : is_blank (get_or c.args.text.now c.loop-at.at 0) ≡ c.is_blank.result = ap (λ b. is_blank (get_or b c.loop-at.at 0)) (sym c.bytes-bytes.ensures.same) ∙ sym c.is_blank.ensures in
     let within : c.loop-at.at < length c.args.text.now = omega (arith, c.loop-at-test.true, ap length c.bytes-bytes.ensures.same) in
     elim c.if-is_blank.branch [
-      then-is_blank+in_ok-keep_piece w ↦ rw (w.found-is, w.start-is)
-        (words_cut c.args.text.now c.loop-at.found _ c.loop-at.start c.loop-at.at c.bytes-bytes.ensures.form.0 within (here ∙ w.if-is_blank.true) w.in_ok-keep_piece.ensures c.loop-at.invariant)
-    | else-is_blank w ↦ rw (w.found-is, w.start-is) (words_go_on c.args.text.now c.loop-at.found c.loop-at.start c.loop-at.at (here ∙ w.if-is_blank.false) c.loop-at.invariant) ]
+      | then-is_blank+in_ok-keep_piece w ↦ rw (w.found-is, w.start-is)
+          (words_cut c.args.text.now c.loop-at.found _ c.loop-at.start c.loop-at.at c.bytes-bytes.ensures.form.0 within (here ∙ w.if-is_blank.true) w.in_ok-keep_piece.ensures c.loop-at.invariant)
+      | else-is_blank w ↦ rw (w.found-is, w.start-is) (words_go_on c.args.text.now c.loop-at.found c.loop-at.start c.loop-at.at (here ∙ w.if-is_blank.false) c.loop-at.invariant)
+    ]
 
 pub returns : goal.returns
 returns c =
