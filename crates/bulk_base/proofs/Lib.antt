@@ -3,3 +3,4 @@ pub mod Cuts
 pub mod TextBytes
 pub mod WordsSoFar
 pub mod LinesSoFar
+pub mod Paths
