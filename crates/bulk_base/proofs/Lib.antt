@@ -3,5 +3,5 @@ pub mod Cuts
 pub mod TextBytes
 pub mod WordsSoFar
 pub mod LinesSoFar
-pub mod Paths
 pub mod MapView
+pub mod Paths
