@@ -3,3 +3,12 @@ pub mod Facts
 pub mod Weight
 pub mod PlanView
 pub mod PlanFacts
+pub mod Installs
+pub mod Bake
+pub mod Results
+pub mod Spelling
+pub mod Fit
+pub mod Cause
+pub mod Lists
+pub mod Sound
+pub mod Baked

@@ -1,7 +1,7 @@
 //! What is built and what comes of it: ports as jobs, packages, plans, statuses, and what a build is.
 #![tactic(auto)]
 
-// mod baking;
+mod baking;
 mod depend;
 mod job;
 mod outcome;
@@ -12,7 +12,7 @@ mod results;
 mod shared;
 mod steps;
 
-// pub use baking::Baking;
+pub use baking::Baking;
 pub use depend::{DepKind, Depend, Depends};
 pub use job::{Job, Jobs};
 pub use outcome::{Outcome, Phase};

@@ -48,7 +48,7 @@ pub fn weight(built: &Package) -> u64
     ensures { result ≡ min (weight_of built.now.files) (2 ^ 64 - 1) }
 {
     let mut sum: u64 = 0;
-    for file in &built.files {
+    for file in built.files.as_slice() {
         let bytes = file.bytes.len() as u64;
         let path = file.path.bytes().len() as u64;
         sum = sum.saturating_add(bytes).saturating_add(path).saturating_add(16);
