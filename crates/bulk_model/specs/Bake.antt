@@ -1,11 +1,11 @@
 -- A build (docs/DEFINITIONS.md): the folder, the commands of five phases, the package of what was staged.
-use Rattle.std.specs.Prelude.{◌≡◌, ℕ, Bool, ◌==◌, nat_lt, List, [], ◌∷◌, ◌++◌, map, drop, codes, Option, Some, None, is_some, if◌then◌else◌}
-use Rattle.std.specs.List.{list_any, flat_map, filter_map}
-use Rattle.std.specs.Option.{option_map}
-use Rattle.std.specs.FinMap.{from_entries, get}
+use Rattle.std.specs.Prelude.{◌≡◌, ℕ, Bool, ◌==◌, nat_lt, List, [], ◌∷◌, ◌++◌, map, codes, Option, Some, None, is_some, if◌then◌else◌}
+use Rattle.std.specs.List.{list_any, flat_map}
+use Rattle.std.specs.FinMap.{from_entries}
 use Rattle.bulk_base.specs.Path.{joined, collides}
 use Rattle.bulk_base.specs.declared.file.FileItem.{FileItem}
-use Rattle.outside.specs.Contents.{Contents, files_below}
+use Rattle.outside.specs.Contents.{Contents}
+use Rattle.bulk_model.specs.Files.{files_in}
 use Rattle.bulk_model.specs.declared.outcome.Outcome.{Outcome}
 use Rattle.bulk_model.specs.declared.outcome.Outcome.TheVariants.{Built, Failed}
 use Rattle.bulk_model.specs.declared.outcome.Phase.{Phase}
@@ -50,7 +50,7 @@ phases_of steps =
 
 -- the files below `stage/`, with `stage/` taken off
 abbrev pub staged : Contents → List FileItem
-staged folder = filter_map (λ path. option_map (λ bytes. record { path = drop 6 path; bytes = bytes }) (get folder path)) (files_below (codes "stage") folder)
+staged folder = files_in (codes "stage") folder
 
 -- the package of a job with these files
 abbrev pub package_of : JobView → List FileItem → PackageView

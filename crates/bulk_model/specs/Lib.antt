@@ -1,5 +1,6 @@
 pub mod Views
 pub mod Facts
+pub mod Files
 pub mod Weight
 pub mod PlanView
 pub mod PlanFacts
