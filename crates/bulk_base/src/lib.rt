@@ -6,6 +6,8 @@ mod line;
 mod numeral;
 mod path;
 mod sequence;
+#[cfg(test)]
+mod tests;
 mod text;
 mod word;
 
