@@ -7,6 +7,8 @@ mod numeral;
 mod path;
 mod path_map;
 mod sequence;
+#[cfg(test)]
+mod tests;
 mod text;
 mod text_map;
 mod word;
