@@ -2,6 +2,7 @@
 #![tactic(auto)]
 
 mod file;
+mod known;
 mod line;
 mod numeral;
 mod path;

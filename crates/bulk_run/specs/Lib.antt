@@ -1,2 +1,4 @@
 pub mod PortFile
 pub mod FirstPath
+pub mod OnePlan
+pub mod AnswerLine
