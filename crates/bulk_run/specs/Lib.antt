@@ -2,3 +2,5 @@ pub mod PortFile
 pub mod FirstPath
 pub mod OnePlan
 pub mod AnswerLine
+pub mod Causes
+pub mod Decided

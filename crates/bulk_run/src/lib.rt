@@ -2,5 +2,7 @@
 #![tactic(auto)]
 
 mod answer;
+mod first_port;
+mod port_place;
 
 pub use answer::{Answer, Closed, Finished};
