@@ -4,7 +4,11 @@
 
 mod change;
 mod failure;
+mod folder;
 mod gate;
+mod mem_error;
+mod mem_sink;
+mod mem_tree;
 mod outer;
 mod room;
 mod sink;
@@ -15,6 +19,9 @@ mod ways;
 pub use change::Change;
 pub use failure::{CallKind, Fail, Fails};
 pub use gate::{Gate, OpenGate};
+pub use mem_error::MemError;
+pub use mem_sink::MemSink;
+pub use mem_tree::MemTree;
 pub use outer::Outer;
 pub use room::Room;
 pub use sink::Sink;
