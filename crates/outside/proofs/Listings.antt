@@ -1,9 +1,8 @@
 -- What lies below a folder, where no path is a folder of another.
-use Rattle.std.proofs.Common.{◌≡◌, ℕ, Bool, true, false, List, [], ◌∷◌, ap, subst, sym, ◌∙◌, refl, arith}
-use Rattle.std.specs.Prelude.{cond, not, ◌&&◌, ◌||◌, filter, Option, Some, None}
+use Rattle.std.proofs.Common.{◌≡◌, ℕ, Bool, true, false, List, [], ◌∷◌, refl, arith}
+use Rattle.std.specs.Prelude.{cond, not, ◌&&◌, filter, Some, None}
 use Rattle.std.specs.List.{list_all, list_any, find}
 use Rattle.std.specs.FinMap.{keys}
-use Rattle.std.specs.List.Sorted.{IsStrictlySortedBy}
 use Rattle.std.proofs.lemmas.List.Kept.{IsStrictlySortedBy-filter}
 use Rattle.bulk_base.specs.Path.{is_below}
 use Rattle.bulk_base.proofs.MapView.{order, keys_ascend}
@@ -52,7 +51,7 @@ pub files_below_are_listed : (folder : List ℕ) (content : Contents) → has_no
 files_below_are_listed folder content h = record {
   order = IsStrictlySortedBy-filter order (is_below folder) (keys content) (keys_ascend content);
   below = list_all_kept (is_below folder) (keys content);
-  apart = has_no_folder-filter (is_below folder) (keys content) h
+  apart = has_no_folder-filter (is_below folder) (keys content) h;
 }
 
 none_below : (folder : List ℕ) (paths : List (List ℕ)) → list_any (is_below folder) paths ≡ false → list_all (λ path. not (is_below folder path)) paths ≡ true

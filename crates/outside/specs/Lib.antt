@@ -6,3 +6,4 @@ pub mod Failures
 pub mod Given
 pub mod Errors
 pub mod InMemory
+pub mod Kept

@@ -77,7 +77,9 @@ impl Folder {
         let files = collected(alloc, files)?;
         let paths = files.keys(alloc)?;
         match least_folder(&paths) {
-            Some(path) => Err(MemError::NotFolder { path: path.copy(alloc)? }),
+            Some(path) => Err(MemError::NotFolder {
+                path: path.copy(alloc)?,
+            }),
             None => Ok(Folder { files }),
         }
     }
@@ -92,7 +94,12 @@ impl Folder {
     }
 
     /// The first `most` bytes of a file; None where there is no such file.
-    pub(crate) fn first_bytes(&self, alloc: Global, file: &Path, most: u64) -> Result<Option<Vec<u8>>, NoMemory>
+    pub(crate) fn first_bytes(
+        &self,
+        alloc: Global,
+        file: &Path,
+        most: u64,
+    ) -> Result<Option<Vec<u8>>, NoMemory>
         ensures within { IfOk result (λ found. IfSome found (λ bytes. vec_len bytes ≤ most)) }
         ensures told { IfOk result (λ found. option_map (λ b. b.items) found ≡ first_bytes most file.now self.now) }
     {

@@ -1,5 +1,5 @@
-use Rattle.std.proofs.Common.{ap, sym, subst, ◌∙◌}
-use Rattle.outside.specs.Contents.{IsListing, files_below}
+use Rattle.std.proofs.Common.{sym, subst}
+use Rattle.outside.specs.Contents.{IsListing}
 use Rattle.outside.proofs.Listings.{files_below_are_listed}
 use Rattle.outside.proofs.folder.Folder.names.Goals as goal
 
