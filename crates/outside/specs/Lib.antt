@@ -7,3 +7,4 @@ pub mod Given
 pub mod Errors
 pub mod InMemory
 pub mod Kept
+pub mod Programs

@@ -1,9 +1,10 @@
 // Files in memory, none of their paths a folder of another.
-ghost use Rattle.std.specs.Prelude.{◌≡◌, ◌≤◌, IfOk, IfErr, IfSome, OnOk, Option, Some, None, take, vec_len};
+ghost use Rattle.std.specs.Prelude.{◌≡◌, ◌≤◌, IsTrue, IfOk, IfErr, IfSome, OnOk, OnErr, Some, None, take, vec_len};
 ghost use Rattle.std.specs.Option.{option_map, option_copied};
-ghost use Rattle.std.specs.FinMap.{keys};
-ghost use Rattle.outside.specs.Contents.{Contents, IsListing, files_below, first_bytes};
+ghost use Rattle.std.specs.FinMap.{empty, get, insert, keys};
+ghost use Rattle.outside.specs.Contents.{IsListing, files_below, first_bytes};
 ghost use Rattle.outside.specs.Given.{content_of, first_folder};
+ghost use Rattle.outside.specs.Programs.{can_hold};
 ghost use Rattle.outside.specs.Errors.{IfNotFolder};
 
 use crate::mem_error::MemError;
@@ -82,6 +83,39 @@ impl Folder {
             }),
             None => Ok(Folder { files }),
         }
+    }
+
+    /// A folder without files; takes no memory.
+    pub(crate) fn new(alloc: Global) -> Folder
+        ensures { result ≡ empty }
+    {
+        Folder {
+            files: PathMap::new(alloc),
+        }
+    }
+
+    /// Whether a file can stand at a path: none stands below it, and none of its folders is a file.
+    pub(crate) fn can_hold(&self, path: &Path) -> bool
+        ensures { result ≡ can_hold path.now self.now }
+    {
+        !self.files.has_nested(path)
+    }
+
+    /// Puts a file at a path, in place of the one that was there. On an error nothing changed.
+    pub(crate) fn put(&mut self, path: Path, bytes: Bytes) -> Result<(), NoMemory>
+        requires { IsTrue (can_hold path self.old) }
+        ensures ok { OnOk result (self.new ≡ insert self.old path bytes) }
+        ensures err { OnErr result (self.new ≡ self.old) }
+    {
+        self.files.insert(path, bytes)?;
+        Ok(())
+    }
+
+    /// What a file holds; None where there is no such file.
+    pub(crate) fn get(&self, file: &Path) -> Option<&Bytes>
+        ensures { option_copied result ≡ get self.now file.now }
+    {
+        self.files.get(file)
     }
 
     /// The paths below a folder, in byte order.

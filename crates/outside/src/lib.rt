@@ -13,6 +13,7 @@ mod mem_sink;
 mod mem_store;
 mod mem_tree;
 mod outer;
+mod program;
 mod room;
 mod sink;
 mod store;
