@@ -55,3 +55,14 @@ store_code =
     code_by (History × Failing) (coded× history_code failing_code)
     (λ s. (record { first = s.first; journal = s.journal; content = s.content }, s.failing))
     (λ p. record { first = p.0.first; journal = p.0.journal; content = p.0.content; failing = p.1 }) (λ _. refl)
+
+-- a room: what its folder holds, the names that were given to clear, and which of its calls fail
+pub record RoomState : Type 0 where
+  pub folder : Contents
+  pub begun : List (List ℕ)
+  pub failing : Failing
+
+abbrev pub room_code : Coded RoomState
+room_code =
+    code_by (Contents × (List (List ℕ) × Failing)) (coded× contents_code (coded× (coded_list (coded_list coded_ℕ)) failing_code))
+    (λ r. (r.folder, (r.begun, r.failing))) (λ p. record { folder = p.0; begun = p.1.0; failing = p.1.1 }) (λ _. refl)
