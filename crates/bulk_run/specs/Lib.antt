@@ -2,3 +2,4 @@ pub mod PortFile
 pub mod FirstPath
 pub mod OnePlan
 pub mod AnswerLine
+pub mod RoomBuild

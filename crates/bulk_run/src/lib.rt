@@ -2,5 +2,10 @@
 #![tactic(auto)]
 
 mod answer;
+mod furnishing;
+mod packing;
+mod phases;
+mod room_build;
+mod staging;
 
 pub use answer::{Answer, Closed, Finished};
