@@ -1,1 +1,4 @@
 
+pub mod PathLists
+pub mod Placed
+pub mod FolderNames
