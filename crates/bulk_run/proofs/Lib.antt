@@ -1,2 +1,6 @@
 pub mod Origins
 pub mod Places
+
+pub mod PathLists
+pub mod Placed
+pub mod FolderNames

@@ -4,3 +4,4 @@ pub mod OnePlan
 pub mod AnswerLine
 pub mod Causes
 pub mod Decided
+pub mod RoomBuild

@@ -4,5 +4,10 @@
 mod answer;
 mod first_port;
 mod port_place;
+mod furnishing;
+mod packing;
+mod phases;
+mod room_build;
+mod staging;
 
 pub use answer::{Answer, Closed, Finished};
