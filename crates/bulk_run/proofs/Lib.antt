@@ -1,1 +1,2 @@
-
+pub mod PortSettings
+pub mod PortLines

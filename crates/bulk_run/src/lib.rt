@@ -2,5 +2,6 @@
 #![tactic(auto)]
 
 mod answer;
+mod port_file;
 
 pub use answer::{Answer, Closed, Finished};
