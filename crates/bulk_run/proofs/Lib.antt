@@ -4,3 +4,5 @@ pub mod Places
 pub mod PathLists
 pub mod Placed
 pub mod FolderNames
+pub mod PortSettings
+pub mod PortLines

@@ -9,5 +9,6 @@ mod packing;
 mod phases;
 mod room_build;
 mod staging;
+mod port_file;
 
 pub use answer::{Answer, Closed, Finished};
