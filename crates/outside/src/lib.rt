@@ -3,6 +3,7 @@
 #![tactic(auto)]
 
 mod change;
+mod failure;
 mod gate;
 mod outer;
 mod room;
@@ -12,6 +13,7 @@ mod tree;
 mod ways;
 
 pub use change::Change;
+pub use failure::{CallKind, Fail, Fails};
 pub use gate::{Gate, OpenGate};
 pub use outer::Outer;
 pub use room::Room;

@@ -1,0 +1,2 @@
+pub mod PortFile
+pub mod FirstPath
