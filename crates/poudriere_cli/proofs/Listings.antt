@@ -55,19 +55,20 @@ searched_text xs key (Err i) s within at =
     let cut = at (searchable_from_sorted nat_list_cmp_total (λ x. x) xs key (sorted_from_ascending xs s)) in
     let tied : slice_cmp nat_cmp key key ≡ Equal = tied_itself nat_list_cmp_total key in
     let missed : Contains xs key → ⊥ = λ c. ⊎_elim
-      (λ low. let less : slice_cmp nat_cmp (get_or xs c.0 key) key ≡ Less = cut.0 c.0 key (omega arith) low in let e = c.2 in let all : Less ≡ Equal = cc in cc)
-      (λ high. let more : slice_cmp nat_cmp (get_or xs c.0 key) key ≡ Greater = cut.1 c.0 key high c.1 in let e = c.2 in let all : Greater ≡ Equal = cc in cc)
-      (cases_lt c.0 i) in
+    (λ low. let less : slice_cmp nat_cmp (get_or xs c.0 key) key ≡ Less = cut.0 c.0 key (omega arith) low in let e = c.2 in let all : Less ≡ Equal = cc in cc)
+    (λ high. let more : slice_cmp nat_cmp (get_or xs c.0 key) key ≡ Greater = cut.1 c.0 key high c.1 in let e = c.2 in let all : Greater ≡ Equal = cc in cc)
+    (cases_lt c.0 i) in
     (λ e. cc, λ c. absurd (missed c))
 
 -- what a folder is joined to begins with the folder, and a slash stands behind that
 slash_behind : (folder path : List ℕ) → is_below folder path ≡ true → (length folder < length path) × (get_or path (length folder) 0 ≡ 47) × (take (length folder) path ≡ folder)
 slash_behind folder path h =
     let e : path ≡ joined folder (drop (length folder + 1) path) = below_is_joined folder path h in
-    let rest = drop (length folder + 1) path in
-    (omega (arith, ap length e, length-append folder (47 ∷ rest)),
-    ap (λ p. get_or p (length folder) 0) e ∙ get_or-append_seam folder 47 rest 0,
-    ap (take (length folder)) e ∙ take-append_seam folder (47 ∷ rest))
+    let rest = drop (length folder + 1) path in (
+      omega (arith, ap length e, length-append folder (47 ∷ rest)),
+      ap (λ p. get_or p (length folder) 0) e ∙ get_or-append_seam folder 47 rest 0,
+      ap (take (length folder)) e ∙ take-append_seam folder (47 ∷ rest),
+    )
 
 -- no folder of the path is among the paths, where none of its beginnings that end before a slash is
 pub none_above : (paths : List (List ℕ)) (path : List ℕ) → ((k : ℕ) → k < length path → get_or path k 0 ≡ 47 → Contains paths (take k path) → ⊥)
@@ -84,7 +85,7 @@ none_above paths path h = list_all-from_AllPass (λ folder. not (is_below folder
 pub begins_below : (path : List ℕ) (k : ℕ) → k < length path → get_or path k 0 ≡ 47 → is_below (take k path) path ≡ true
 begins_below path k l e =
     let whole : path ≡ joined (take k path) (drop (suc k) path) =
-      sym (take-append-drop k path) ∙ ap (λ l. take k path ++ l) (drop-cons path k 0 l ∙ ap (λ b. b ∷ drop (suc k) path) e) in
+    sym (take-append-drop k path) ∙ ap (λ l. take k path ++ l) (drop-cons path k 0 l ∙ ap (λ b. b ∷ drop (suc k) path) e) in
     subst (λ p. is_below (take k path) p ≡ true) (sym whole) (is_below-joined (take k path) (drop (suc k) path))
 
 -- a folder of the path is among the paths

@@ -57,11 +57,9 @@ impl<R: Files + Processes + AllocGlobal + Clone + Drop> DirRoom<R> {
         fs::write(&self.rt, place.as_str(), bytes).map_err(outer)
     }
 
-    /// The shell's command that runs these words in the room. It gets no search path for folders, and nothing that the
-    /// shell itself says is seen.
+    /// The shell's command that runs these words in the room. What the shell itself says of the folder is not seen.
     fn command(&self, alloc: Global, words: &[Text]) -> Result<Command, NoMemory> {
         let mut command = Command::new(alloc, "/bin/sh")?;
-        command.env_remove("CDPATH")?;
         command.arg("-c")?;
         command.arg(IN_FOLDER)?;
         command.arg(self.folder.as_str())?;

@@ -34,7 +34,7 @@ pub fn ascending(mut found: Vec<Text>) -> Result<Texts, Outer>
 }
 
 fn is_listing(paths: &[Path], folder: &Path) -> bool
-    ensures { IsTrue result → IsListing folder.now paths.now }
+    ensures { IsTrue result ↔ IsListing folder.now paths.now }
 {
     is_ascending(paths) && are_below(paths, folder) && are_apart(paths)
 }
