@@ -9,6 +9,8 @@ mod fault;
 mod listing;
 mod out_sink;
 mod place;
+#[cfg(test)]
+mod tests;
 mod walk;
 mod words;
 
