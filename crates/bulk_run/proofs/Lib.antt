@@ -6,3 +6,4 @@ pub mod Placed
 pub mod FolderNames
 pub mod PortSettings
 pub mod PortLines
+pub mod TakenFiles

@@ -4,6 +4,7 @@
 mod answer;
 mod first_port;
 mod port_place;
+mod port_tree;
 mod furnishing;
 mod packing;
 mod phases;
