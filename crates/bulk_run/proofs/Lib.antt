@@ -2,3 +2,4 @@
 pub mod PathLists
 pub mod Placed
 pub mod FolderNames
+pub mod Staged
