@@ -1,5 +1,5 @@
 -- Files of which only first bytes were taken weigh too much where any was cut.
-use Rattle.std.proofs.Common.{◌≡◌, ℕ, ◌+◌, ◌<◌, ◌≤◌, Bool, true, false, List, [], ◌∷◌, ap, sym, ◌∙◌, refl, arith, length, take, map}
+use Rattle.std.proofs.Common.{◌≡◌, ℕ, ◌<◌, ◌≤◌, true, false, List, [], ◌∷◌, ap, sym, ◌∙◌, refl, arith, take, map}
 use Rattle.std.specs.Prelude.{cond, nat_lt}
 use Rattle.std.proofs.lemmas.List.{length-take, take_all}
 use Rattle.std.proofs.lemmas.List.Sums.{sum_by-cons}
@@ -32,6 +32,6 @@ packed-cut most job files l =
     elim (nat_lt most_weight (weight_of (map (cut_file most) files))) as (λ b. nat_lt most_weight (weight_of (map (cut_file most) files)) ≡ b → cond b (Failed Package 2) (Built (package_of job (map (cut_file most) files))) ≡ packed job files) [
       | true ↦ λ e. ap (λ b. cond b (Failed Package 2) (Built (package_of job files))) (sym (lt-ltb most_weight (weight_of files) (omega (arith, ltb-true most_weight (weight_of (map (cut_file most) files)) e, weight_of-cut most files))))
       | false ↦ λ e.
-        ap (λ b. cond b (Failed Package 2) (Built (package_of job (map (cut_file most) files)))) (sym e)
-        ∙ ap (packed job) (cut_none most files (omega (arith, ltb-false most_weight (weight_of (map (cut_file most) files)) e)))
+          ap (λ b. cond b (Failed Package 2) (Built (package_of job (map (cut_file most) files)))) (sym e)
+          ∙ ap (packed job) (cut_none most files (omega (arith, ltb-false most_weight (weight_of (map (cut_file most) files)) e)))
     ] refl

@@ -1,4 +1,3 @@
-
 pub mod PathLists
 pub mod Placed
 pub mod FolderNames

@@ -24,7 +24,13 @@ fn path_in_stage(alloc: Global, stage: &Path, path: &Path) -> Result<Path, NoMem
 }
 
 // The first bytes of a staged file, if it is still there.
-fn take_file<R: Room>(alloc: Global, room: &mut R, stage: &Path, path: &Path, most: u64) -> Result<Option<FileItem>, Outer>
+fn take_file<R: Room>(
+    alloc: Global,
+    room: &mut R,
+    stage: &Path,
+    path: &Path,
+    most: u64,
+) -> Result<Option<FileItem>, Outer>
     requires stage { stage.now ≡ codes "stage" }
     requires below { IsTrue (is_below (codes "stage") path.now) }
     ensures told { IsTrue R.Ways.tells → IfOk result (λ found. found ≡ taken_at most (codes "stage") (R.folder room.old) path.now) }

@@ -13,5 +13,5 @@ invariant-loop-path g l = record {
   form : IsPathList (paths_of l.files ++ map (rest_of (codes "stage")) (drop l.path-index l.path-items));
   short : list_all (λ path. nat_le (length path) 1018) (paths_of l.files) ≡ true;
   begun : g.R.Room.begun l.room ≡ g.R.Room.begun l.initial.room;
-  quiet : g.R.Room.faults l.room ≡ g.R.Room.faults l.initial.room
+  quiet : g.R.Room.faults l.room ≡ g.R.Room.faults l.initial.room;
 }

@@ -1,4 +1,4 @@
-use Rattle.std.proofs.Common.{◌≡◌, ℕ, List, take, ap, sym, ◌∙◌, refl, Vec, Global, codes}
+use Rattle.std.proofs.Common.{◌≡◌, ℕ, List, take, ap, sym, ◌∙◌, Vec, Global}
 use Rattle.std.specs.Prelude.{Option, Some, None}
 use Rattle.std.specs.Option.{option_map}
 use Rattle.std.specs.FinMap.{get}
@@ -20,7 +20,7 @@ pub returns-in_ok-path_in_stage-in-Some-clause-told :
 returns-in_ok-path_in_stage-in-Some-clause-told g c t =
     (λ k. Some (record { path = c.in_ok-path_in_stage-in-Some.ensures.path k; bytes = c.from_vec.ensures k }))
     ∙ cut_when_taken c.args.most _ (Some c.in-Some.bytes.items) (get (g.R.Room.folder c.args.room.now) c.args.path.now)
-      (ap (option_map (λ (b : Vec ℕ Global). b.items)) (sym c.in-Some.is) ∙ c.in_ok-bytes.ensures.told t)
+    (ap (option_map (λ (b : Vec ℕ Global). b.items)) (sym c.in-Some.is) ∙ c.in_ok-bytes.ensures.told t)
 
 pub returns-in-None-clause-told : goal.returns-in-None-clause-told
 returns-in-None-clause-told g c t =
