@@ -7,3 +7,5 @@ pub mod FolderNames
 pub mod PortSettings
 pub mod PortLines
 pub mod TakenFiles
+pub mod Staged
+pub mod CutFiles
