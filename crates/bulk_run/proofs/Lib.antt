@@ -1,2 +1,3 @@
 pub mod PortSettings
 pub mod PortLines
+pub mod PortName

@@ -2,6 +2,9 @@
 #![tactic(auto)]
 
 mod answer;
+mod answer_line;
 mod port_file;
+mod port_lists;
+mod record_writer;
 
 pub use answer::{Answer, Closed, Finished};
