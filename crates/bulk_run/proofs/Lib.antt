@@ -1,3 +1,4 @@
 pub mod PortSettings
 pub mod PortLines
 pub mod PortName
+pub mod OneList

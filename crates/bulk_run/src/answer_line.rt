@@ -12,22 +12,22 @@ const USAGE: &str = "usage: poudriere bulk [-acCnT] [-f path] [-J n] [origin ...
 fn text(alloc: Global, answer: &Answer) -> Result<String, NoMemory>
     ensures { IfOk result (λ text. string_bytes text ≡ answer_line answer.now) }
 {
-    Ok(match answer {
-        Answer::Done => String::new(alloc),
-        Answer::Usage => String::from_str(alloc, USAGE)?,
+    match answer {
+        Answer::Done => Ok(String::new(alloc)),
+        Answer::Usage => Ok(String::from_str(alloc, USAGE)?),
         Answer::Builders { asked, had } => {
-            format!(in alloc; "poudriere: {asked} builders asked, {had} rooms\n")?
+            Ok(format!(in alloc; "poudriere: {asked} builders asked, {had} rooms\n")?)
         }
-        Answer::NotYet { path } => format!(in alloc; "poudriere: {path}: not yet\n")?,
-        Answer::NoOrigin { word } => format!(in alloc; "poudriere: no origin {word}\n")?,
-        Answer::TreeFault => String::from_str(alloc, "poudriere: tree failed\n")?,
-        Answer::StoreFault => String::from_str(alloc, "poudriere: store failed\n")?,
+        Answer::NotYet { path } => Ok(format!(in alloc; "poudriere: {path}: not yet\n")?),
+        Answer::NoOrigin { word } => Ok(format!(in alloc; "poudriere: no origin {word}\n")?),
+        Answer::TreeFault => Ok(String::from_str(alloc, "poudriere: tree failed\n")?),
+        Answer::StoreFault => Ok(String::from_str(alloc, "poudriere: store failed\n")?),
         Answer::RoomFault { builder } => {
-            format!(in alloc; "poudriere: room {builder} failed\n")?
+            Ok(format!(in alloc; "poudriere: room {builder} failed\n")?)
         }
-        Answer::SinkFault => String::from_str(alloc, "poudriere: output failed\n")?,
-        Answer::NoMemory => String::from_str(alloc, "poudriere: out of memory\n")?,
-    })
+        Answer::SinkFault => Ok(String::from_str(alloc, "poudriere: output failed\n")?),
+        Answer::NoMemory => Ok(String::from_str(alloc, "poudriere: out of memory\n")?),
+    }
 }
 
 /// The line that an answer prints; nothing for a run that printed its lists.
