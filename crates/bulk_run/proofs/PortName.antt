@@ -1,5 +1,5 @@
 -- A port's name and version in form make a package's name in form, which is a text.
-use Rattle.std.proofs.Common.{◌≡◌, ℕ, ◌+◌, ◌≤◌, ◌<◌, Bool, true, false, List, [], ◌∷◌, ◌++◌, length, arith, refl, sym, ap, ◌∙◌, append-nil, append_assoc, subst, Result, Ok, Err}
+use Rattle.std.proofs.Common.{◌≡◌, ℕ, ◌≤◌, Bool, true, List, [], ◌∷◌, ◌++◌, length, arith, refl, sym, ap, ◌∙◌, append-nil, append_assoc, subst, Result, Ok, Err}
 use Rattle.std.specs.Prelude.{◌&&◌, ◌||◌, ◌==◌, None, codes}
 use Rattle.std.specs.Result.{IfOk}
 use Rattle.std.specs.List.{list_all}
@@ -9,7 +9,7 @@ use Rattle.std.proofs.lemmas.List.{length-append}
 use Rattle.std.proofs.lemmas.List.Folds.{list_all-append}
 use Rattle.std.proofs.lemmas.Str.{IsUtf8-append}
 use lib.Utf8.{encode}
-use Rattle.bulk_base.specs.Names.{is_made_of, is_port_byte, is_version, is_alphanumeric, IsPackageName, package_name}
+use Rattle.bulk_base.specs.Names.{is_made_of, is_port_byte, is_version, is_alphanumeric, IsPackageName}
 use Rattle.bulk_base.specs.Text.{is_text, is_text_byte, has_text_bytes, IsText}
 use Rattle.bulk_run.specs.PortFile.{is_name_byte, is_version_byte, is_first_name, is_first_version, IsFirstForm}
 use Rattle.bulk_run.proofs.PortLines.{is_text-from_IsText}

@@ -43,14 +43,9 @@ pub(crate) fn status(answer: &Answer) -> u8
 {
     match answer {
         Answer::Done => 0,
-        Answer::Usage
-        | Answer::Builders { .. }
-        | Answer::NotYet { .. }
-        | Answer::NoOrigin { .. } => 2,
-        Answer::TreeFault
-        | Answer::StoreFault
-        | Answer::RoomFault { .. }
-        | Answer::SinkFault => 3,
+        Answer::Usage | Answer::Builders { .. } | Answer::NotYet { .. } | Answer::NoOrigin { .. } =>
+            2,
+        Answer::TreeFault | Answer::StoreFault | Answer::RoomFault { .. } | Answer::SinkFault => 3,
         Answer::NoMemory => 4,
     }
 }

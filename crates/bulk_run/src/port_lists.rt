@@ -40,14 +40,14 @@ fn text(alloc: Global, job: &Job, outcome: &Outcome) -> Result<String, NoMemory>
     let node = node(alloc, job)?;
     let name = &job.name;
     match outcome {
-        Outcome::Built(_) => Ok(
-            format!(in alloc; "deleted 0\nkept 0\nbuilt 1\n  {node} {name}\nfailed 0\nignored 0\nskipped 0\ntotal 1\n")?,
-        ),
+        Outcome::Built(_) => Ok(format!(in alloc;
+            "deleted 0\nkept 0\nbuilt 1\n  {node} {name}\nfailed 0\nignored 0\nskipped 0\ntotal 1\n"
+        )?),
         Outcome::Failed { phase, code } => {
             let phase = phase_word(*phase);
-            Ok(
-                format!(in alloc; "deleted 0\nkept 0\nbuilt 0\nfailed 1\n  {node} {name} {phase} {code}\nignored 0\nskipped 0\ntotal 1\n")?,
-            )
+            Ok(format!(in alloc;
+                "deleted 0\nkept 0\nbuilt 0\nfailed 1\n  {node} {name} {phase} {code}\nignored 0\nskipped 0\ntotal 1\n"
+            )?)
         }
     }
 }

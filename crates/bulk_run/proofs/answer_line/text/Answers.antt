@@ -1,5 +1,4 @@
-use Rattle.std.proofs.Common.{◌∙◌, ap, append_assoc}
-use Rattle.bulk_run.specs.AnswerLine.{answer_line}
+use Rattle.std.proofs.Common.{◌∙◌, append_assoc}
 use Rattle.bulk_run.proofs.answer_line.text.Goals as goal
 
 pub returns-in_ok-format-in-Builders : goal.returns-in_ok-format-in-Builders
