@@ -1,3 +1,9 @@
+pub mod Origins
+pub mod Places
+
+pub mod PathLists
+pub mod Placed
+pub mod FolderNames
 pub mod PortSettings
 pub mod PortLines
 pub mod PortName

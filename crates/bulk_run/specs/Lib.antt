@@ -2,3 +2,6 @@ pub mod PortFile
 pub mod FirstPath
 pub mod OnePlan
 pub mod AnswerLine
+pub mod Causes
+pub mod Decided
+pub mod RoomBuild

@@ -3,6 +3,13 @@
 
 mod answer;
 mod answer_line;
+mod first_port;
+mod port_place;
+mod furnishing;
+mod packing;
+mod phases;
+mod room_build;
+mod staging;
 mod port_file;
 mod port_lists;
 mod record_writer;
