@@ -9,3 +9,5 @@ pub mod PortLines
 pub mod TakenFiles
 pub mod Staged
 pub mod CutFiles
+pub mod PortName
+pub mod OneList

@@ -1,12 +1,12 @@
 -- Where a line's `=` stands, and that what follows it is a text.
-use Rattle.std.proofs.Common.{◌≡◌, ℕ, ◌+◌, ◌≤◌, ◌<◌, Bool, true, false, List, [], ◌∷◌, length, get_or, drop, ltb, Option, Some, None, arith, refl, sym, ap, ◌∙◌, inl, inr}
-use Rattle.std.specs.Prelude.{cond, ◌⊎◌, find, unwrap_or}
+use Rattle.std.proofs.Common.{◌≡◌, ℕ, ◌+◌, ◌≤◌, ◌<◌, true, List, [], length, get_or, drop, ltb, Some, None, arith, refl, ap, ◌∙◌, inl, inr}
+use Rattle.std.specs.Prelude.{cond, find, unwrap_or}
 use Rattle.std.specs.Option.{option_map}
-use Rattle.std.specs.List.{list_all, position_or_len, prefix_len}
-use Rattle.std.specs.Str.{IsCharBoundary, IsUtf8, is_utf8}
+use Rattle.std.specs.List.{position_or_len}
+use Rattle.std.specs.Str.{IsCharBoundary, IsUtf8}
 use Rattle.std.proofs.lemmas.Bool.{cases_lt}
 use Rattle.std.proofs.lemmas.Bool.Decides.{nat_tests}
-use Rattle.std.proofs.lemmas.List.{length-drop, drop_all}
+use Rattle.std.proofs.lemmas.List.{drop_all}
 use Rattle.std.proofs.lemmas.List.Sums.{prefix_len-le-length, passes_at_first}
 use Rattle.std.proofs.lemmas.Str.{IsCharBoundary-after_ascii, IsUtf8-drop, is_utf8-from_IsUtf8}
 use Rattle.bulk_base.proofs.TextBytes.{list_all-drop}

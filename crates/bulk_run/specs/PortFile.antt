@@ -1,5 +1,5 @@
 -- The first form of a port's description (docs/FORMATS.md).
-use Rattle.std.specs.Prelude.{◌≡◌, ℕ, Bool, not, ◌&&◌, ◌||◌, ◌==◌, ◌-◌, nat_le, List, [], ◌∷◌, length, slice_index, codes, find, count_by, Option, Some, None, unwrap_or, bytes_eq, IsTrue, if◌then◌else◌}
+use Rattle.std.specs.Prelude.{ℕ, Bool, not, ◌&&◌, ◌||◌, ◌==◌, ◌-◌, nat_le, List, [], ◌∷◌, length, slice_index, codes, find, count_by, Option, Some, None, unwrap_or, bytes_eq, IsTrue, if◌then◌else◌}
 use Rattle.std.specs.List.{list_all, list_any, before_first, after_first}
 use Rattle.std.specs.Option.{option_map}
 use Rattle.std.specs.Str.Lines.{lines}
@@ -87,7 +87,7 @@ port_file_of settings = record {
   name = value_of settings (codes "PORTNAME");
   version = value_of settings (codes "PORTVERSION");
   build = value_of settings (codes "DO_BUILD");
-  stage = value_of settings (codes "DO_STAGE")
+  stage = value_of settings (codes "DO_STAGE");
 }
 
 -- what a file says, where it has the form

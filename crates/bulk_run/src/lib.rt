@@ -2,6 +2,7 @@
 #![tactic(auto)]
 
 mod answer;
+mod answer_line;
 mod first_port;
 mod port_place;
 mod port_tree;
@@ -11,5 +12,7 @@ mod phases;
 mod room_build;
 mod staging;
 mod port_file;
+mod port_lists;
+mod record_writer;
 
 pub use answer::{Answer, Closed, Finished};

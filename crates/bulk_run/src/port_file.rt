@@ -1,11 +1,14 @@
 // A port's description in the first form.
-ghost use Rattle.std.specs.Prelude.{◌≡◌, ◌≤◌, ◌&&◌, nat_le, nat_lt, List, ℕ, length, All, IsTrue, IfOk, count_by, if◌then◌else◌, bytes_eq};
+ghost use Rattle.std.specs.Prelude.{◌≡◌, ◌≤◌, ◌&&◌, ◌++◌, codes, nat_le, nat_lt, List, ℕ, length, All, IsTrue, IfOk, count_by, if◌then◌else◌, bytes_eq};
 ghost use Rattle.std.specs.List.{list_all, list_any, position_or_len};
+ghost use Rattle.bulk_base.specs.Names.{IsPackageName};
 ghost use Rattle.bulk_base.specs.Lines.{cut_at, IsSpanWithin};
 ghost use Rattle.bulk_base.specs.Text.{is_text};
+ghost use Rattle.bulk_run.specs.FirstPath.{commands_of};
 ghost use Rattle.bulk_run.specs.PortFile.{is_equals, known_names, has_first_form, texts_of};
 
-use bulk_base::{NoMemory, Sequence, Span, Text, TextError, Texts, lines};
+use bulk_base::{NoMemory, Sequence, Span, Text, TextError, Texts, lines, words};
+use bulk_model::{Command, Commands};
 use std::alloc::{AllocError, Global};
 use std::marker::Model;
 
@@ -241,4 +244,33 @@ pub(crate) fn read_port_file(alloc: Global, bytes: &[u8]) -> Result<Option<PortF
         return Ok(None);
     }
     port_file_of(alloc, texts.as_slice())
+}
+
+/// The command whose words a value has, or none where it has no word.
+pub(crate) fn commands(alloc: Global, value: &Text) -> Result<Commands, NoMemory>
+    ensures { IfOk result (λ found. found ≡ commands_of value.now) }
+{
+    let mut found = Sequence::new(alloc);
+    if let Some(command) = Command::new(words(alloc, value)?) {
+        found.push(command)?;
+    }
+    Ok(found)
+}
+
+/// Two texts with `-` between.
+fn dashed(alloc: Global, front: &Text, back: &Text) -> Result<Text, NoMemory>
+    ensures { IfOk result (λ text. text ≡ front.now ++ codes "-" ++ back.now) }
+{
+    let mut bytes = Vec::from_slice(alloc, front.bytes())?;
+    bytes.push(b'-')?;
+    bytes.extend_from_slice(back.bytes())?;
+    Text::of(alloc, bytes.as_slice())
+}
+
+/// The name of a port's package: its name, `-` and its version.
+pub(crate) fn package_name(alloc: Global, file: &PortFile) -> Result<Text, NoMemory>
+    ensures name { IfOk result (λ name. name ≡ file.now.name ++ codes "-" ++ file.now.version) }
+    ensures form { IfOk result IsPackageName }
+{
+    dashed(alloc, &file.name, &file.version)
 }

@@ -1,4 +1,4 @@
-use Rattle.std.proofs.Common.{◌∙◌, ap, Err, arith, rules}
+use Rattle.std.proofs.Common.{◌∙◌, ap, Err, arith}
 use Rattle.bulk_run.proofs.PortLines.{one_more_text, no_text}
 use Rattle.bulk_run.proofs.port_file.texts_at.Goals as goal
 

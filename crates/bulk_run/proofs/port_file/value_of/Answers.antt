@@ -3,7 +3,7 @@ use Rattle.std.specs.Prelude.{find}
 use Rattle.std.specs.Option.{option_map}
 use Rattle.std.proofs.lemmas.Iterator.Search.{find_from_yields_List}
 use Rattle.std.proofs.lemmas.Iterator.{YieldsList-from_slice}
-use Rattle.bulk_base.specs.Text.{is_text, IsText}
+use Rattle.bulk_base.specs.Text.{is_text}
 use Rattle.bulk_run.specs.PortFile.{sets, setting_value}
 use Rattle.bulk_run.proofs.PortSettings.{is_text-empty, is_text-setting_value, value_found, value_absent}
 use Rattle.bulk_run.proofs.port_file.value_of.Goals as goal
