@@ -1,0 +1,46 @@
+-- What a variable file means (docs/FORMATS.md, "Variable files").
+use Rattle.std.specs.Prelude.{ℕ, not, nat_le, List, [], ◌∷◌, length, bytes_eq, if◌then◌else◌}
+use Rattle.std.specs.declared.option.Option.{Option}
+use Rattle.std.specs.declared.option.Option.TheVariants.{None, Some}
+use Rattle.std.specs.declared.result.Result.{Result}
+use Rattle.std.specs.declared.result.Result.TheVariants.{Ok, Err}
+use Rattle.std.specs.Ordering.{nat_cmp}
+use Rattle.std.specs.Cmp.Lexicographic.{slice_cmp}
+use Rattle.std.specs.FinMap.{FinMap, empty, insert}
+use Rattle.port_vars.specs.declared.fault.LineKind.{LineKind}
+use Rattle.port_vars.specs.declared.fault.LineKind.TheVariants.{TooLong}
+use Rattle.port_vars.specs.declared.fault.VarsError.{VarsError}
+use Rattle.port_vars.specs.declared.fault.VarsError.TheVariants.{BadLine}
+use Rattle.port_vars.specs.declared.joined.Line.{Line}
+use Rattle.port_vars.specs.declared.limits.Limits.{Limits}
+use Rattle.port_vars.specs.Joined.{joined}
+use Rattle.port_vars.specs.Reference.{Values}
+use Rattle.port_vars.specs.Assignment.{Assignment, value_by, said}
+
+-- the values of variables, by recursion from the last assignment, which stands first in the list
+abbrev pub value_after : List Assignment → Values
+value_after [] name = None
+value_after (last ∷ above) name = if bytes_eq last.name name then Some (value_by (value_after above) last) else value_after above name
+
+-- the same as a finite map
+abbrev pub variables : List Assignment → FinMap (slice_cmp nat_cmp) (List ℕ)
+variables [] = empty
+variables (last ∷ above) = insert (variables above) last.name (value_by (value_after above) last)
+
+abbrev pub at_line : ℕ → LineKind → VarsError
+at_line line kind = BadLine line kind
+
+-- the assignments of joined lines behind those of the lines above, the last first, or the first fault: what a line says
+-- is read with the values that the assignments above give
+abbrev pub assignments_from : Limits → List Assignment → List Line → Result (List Assignment) VarsError
+assignments_from limits above [] = Ok above
+assignments_from limits above (line ∷ rest) = elim (said limits (value_after above) line.text) [
+    Ok None ↦ assignments_from limits above rest
+  | Ok (Some by) ↦ assignments_from limits (by ∷ above) rest
+  | Err kind ↦ Err (at_line line.number kind) ]
+
+-- the assignments of a file, the last first, or its first fault
+unfoldable pub assignments : Limits → List ℕ → Result (List Assignment) VarsError
+assignments limits bytes =
+    if not (nat_le (length bytes) limits.file) then Err (at_line 0 TooLong)
+    else assignments_from limits [] (joined bytes)

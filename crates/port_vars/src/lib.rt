@@ -1,0 +1,14 @@
+//! Variable files: `NAME=VALUE` lines with joined lines, comments, references and exact places of faults.
+#![tactic(auto)]
+
+mod comment;
+mod fault;
+mod joined;
+mod limits;
+mod name;
+mod operator;
+mod piece;
+mod reference;
+mod trim;
+
+pub use fault::{LineKind, VarsError};
