@@ -5,3 +5,8 @@ pub mod Names
 pub mod FirstBytes
 pub mod Referenced
 pub mod ExpandedSoFar
+pub mod Trimmed
+pub mod Readable
+pub mod Changed
+pub mod Assigned
+pub mod Taken

@@ -29,6 +29,10 @@ abbrev pub ◌>>=◌ : {A B E : Type 0} → Result A E → (A → Result B E) �
 Ok a >>= f = f a
 Err e >>= f = Err e
 
+abbrev pub mapped : {A B E : Type 0} → (A → B) → Result A E → Result B E
+mapped f (Ok a) = Ok (f a)
+mapped f (Err e) = Err e
+
 -- the operator, by what stands before the first `=`: its last byte may be `+` or `?`
 abbrev pub operator_in : List ℕ → Operator
 operator_in before = let last = slice_index before (length before - 1) in if last == 43 then Append else (if last == 63 then Default else Set)
@@ -69,15 +73,16 @@ statement line = trim (uncommented line)
 
 -- what a statement says: nothing where it is empty
 unfoldable pub stated : ℕ → Values → List ℕ → Result (Option Assignment) LineKind
-stated limit values text = if length text == 0 then Ok None else (assigned limit values text >>= λ by. Ok (Some by))
+stated limit values text = if length text == 0 then Ok None else mapped Some (assigned limit values text)
 
--- a joined line holds no line feed, so it is no text where it holds NUL or is not UTF-8
-abbrev pub is_text : List ℕ → Bool
-is_text line = is_utf8 line && has_text_bytes line
+-- a joined line that may be read: it holds no line feed, so it is no text where it holds NUL or is not UTF-8
+unfoldable pub readable : ℕ → List ℕ → Result (List ℕ) LineKind
+readable limit line =
+    if not (is_utf8 line && has_text_bytes line) then Err NotText
+    else (if nat_le (length line) limit then Ok line else Err TooLong)
 
 -- what a joined line says
 unfoldable pub said : Limits → Values → List ℕ → Result (Option Assignment) LineKind
-said limits values line =
-    if not (is_text line) then Err NotText
-    else (if not (nat_le (length line) limits.line) then Err TooLong
-    else stated limits.value values (statement line))
+said limits values line = do
+  text ← readable limits.line line
+  stated limits.value values (statement text)

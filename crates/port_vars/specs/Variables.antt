@@ -6,7 +6,7 @@ use Rattle.std.specs.declared.result.Result.{Result}
 use Rattle.std.specs.declared.result.Result.TheVariants.{Ok, Err}
 use Rattle.std.specs.Ordering.{nat_cmp}
 use Rattle.std.specs.Cmp.Lexicographic.{slice_cmp}
-use Rattle.std.specs.FinMap.{FinMap, empty, insert}
+use Rattle.std.specs.FinMap.{FinMap, empty, insert, get}
 use Rattle.port_vars.specs.declared.fault.LineKind.{LineKind}
 use Rattle.port_vars.specs.declared.fault.LineKind.TheVariants.{TooLong}
 use Rattle.port_vars.specs.declared.fault.VarsError.{VarsError}
@@ -17,15 +17,28 @@ use Rattle.port_vars.specs.Joined.{joined}
 use Rattle.port_vars.specs.Reference.{Values}
 use Rattle.port_vars.specs.Assignment.{Assignment, value_by, said}
 
+-- variables as a finite map from names to values
+abbrev pub Vars : Type 0
+Vars = FinMap (slice_cmp nat_cmp) (List ℕ)
+
 -- the values of variables, by recursion from the last assignment, which stands first in the list
 abbrev pub value_after : List Assignment → Values
 value_after [] name = None
 value_after (last ∷ above) name = if bytes_eq last.name name then Some (value_by (value_after above) last) else value_after above name
 
 -- the same as a finite map
-abbrev pub variables : List Assignment → FinMap (slice_cmp nat_cmp) (List ℕ)
+abbrev pub variables : List Assignment → Vars
 variables [] = empty
 variables (last ∷ above) = insert (variables above) last.name (value_by (value_after above) last)
+
+-- variables after an assignment
+abbrev pub after : Vars → Assignment → Vars
+after vars by = insert vars by.name (value_by (get vars) by)
+
+-- variables after a joined line
+abbrev pub after_line : Vars → Option Assignment → Vars
+after_line vars None = vars
+after_line vars (Some by) = after vars by
 
 abbrev pub at_line : ℕ → LineKind → VarsError
 at_line line kind = BadLine line kind

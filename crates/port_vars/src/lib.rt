@@ -1,6 +1,7 @@
 //! Variable files: `NAME=VALUE` lines with joined lines, comments, references and exact places of faults.
 #![tactic(auto)]
 
+mod assignment;
 mod comment;
 mod fault;
 mod joined;

@@ -1,4 +1,4 @@
-use Rattle.std.proofs.Common.{◌∙◌, ◌+◌, ap, arith, drop}
+use Rattle.std.proofs.Common.{◌∙◌, ◌+◌, Ok, ap, sym, arith, drop}
 use Rattle.std.specs.FinMap as map
 use Rattle.std.proofs.lemmas.Result.{err_from_is_err_and}
 use Rattle.port_vars.proofs.ExpandedSoFar.{piece_taken, fault_told, faulty_piece, faulty_end, whole_text}
@@ -28,4 +28,4 @@ pub returns-clause-text : goal.returns-clause-text
 returns-clause-text c =
     whole_text c.args.most (map.get c.args.vars.now) c.args.value.now c.loop-piece.out.items c.loop-piece.plain c.as_slice-piece-items.result.now c.loop-piece.piece-index
       (c.as_slice-piece-items.ensures ∙ c.in_ok-pieces.ensures) (omega arith) c.if-plain.false c.loop-piece.invariant.size c.loop-piece.invariant.text
-    ∙ ap Rattle.std.proofs.Common.Ok ?
+    ∙ ap Ok (sym c.from_vec.ensures)
