@@ -10,3 +10,4 @@ pub mod Readable
 pub mod Changed
 pub mod Assigned
 pub mod Taken
+pub mod JoinedSoFar

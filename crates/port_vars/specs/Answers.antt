@@ -7,6 +7,8 @@ use Rattle.std.specs.declared.result.Result.TheVariants.{Ok, Err}
 use Rattle.port_vars.specs.declared.fault.LineKind.{LineKind}
 use Rattle.port_vars.specs.declared.fault.LineError.{LineError}
 use Rattle.port_vars.specs.declared.fault.LineError.TheVariants.{Bad, NoMemory}
+use Rattle.port_vars.specs.declared.fault.VarsError.{VarsError}
+use Rattle.port_vars.specs.declared.fault.VarsError.TheVariants.{BadLine, NoMemory as OutOfMemory}
 use Rattle.port_vars.specs.Reference.{Values, expanded_from}
 
 -- the answer is what the definition says, or want of memory
@@ -29,3 +31,9 @@ HasCause kind NoMemory cause = Unit {0}
 -- the first bytes of a text with what the pieces behind it stand for
 abbrev pub first_bytes : ℕ → Values → List ℕ → Bool → List (List ℕ) → Option (List ℕ)
 first_bytes most values out plain pieces = option_map (λ rest. take most (out ++ rest)) (expanded_from values plain pieces)
+
+-- the same at a line's number
+abbrev pub LeavesAt : {A : Type 0} → ℕ → Result A LineKind → Result (Unit {0}) VarsError → A → Type 0
+LeavesAt number says (Ok _) new = says ≡ Ok new
+LeavesAt number says (Err (BadLine line kind)) new = (line ≡ number) × (says ≡ Err kind)
+LeavesAt number says (Err OutOfMemory) new = Unit {0}

@@ -1,5 +1,7 @@
 -- The joined lines of a variable file (docs/FORMATS.md, "Variable files").
-use Rattle.std.specs.Prelude.{ℕ, ◌+◌, ◌-◌, Bool, false, ◌==◌, List, [], ◌∷◌, ◌++◌, length, slice_index, take, if◌then◌else◌}
+use Rattle.std.specs.Prelude.{ℕ, ◌+◌, ◌-◌, Bool, true, false, ◌==◌, List, [], ◌∷◌, ◌++◌, length, slice_index, take, if◌then◌else◌}
+use Rattle.std.specs.declared.option.Option.{Option}
+use Rattle.std.specs.declared.option.Option.TheVariants.{None, Some}
 use Rattle.std.specs.Str.Lines.{lines}
 use Rattle.port_vars.specs.declared.joined.Line.{Line}
 use Rattle.port_vars.specs.Trim.{trim_start}
@@ -35,3 +37,13 @@ joined_from number inside (line ∷ rest) =
 -- the joined lines of a file
 abbrev pub joined : List ℕ → List Line
 joined bytes = joined_from 1 false (lines bytes)
+
+-- a line that begins a joined line, or goes on with one
+abbrev pub next_line : Option Line → ℕ → List ℕ → Line
+next_line None number line = record { number = number; text = body line }
+next_line (Some before) number line = record { number = before.number; text = before.text ++ 32 ∷ trim_start (body line) }
+
+-- the joined lines, where some are found, one may be open, and lines from a number on are left
+abbrev pub whole : List Line → Option Line → ℕ → List (List ℕ) → List Line
+whole found None number rest = found ++ joined_from number false rest
+whole found (Some line) number rest = found ++ record { number = line.number; text = line.text ++ continued rest } ∷ joined_from number true rest

@@ -15,7 +15,7 @@ use Rattle.port_vars.specs.declared.joined.Line.{Line}
 use Rattle.port_vars.specs.declared.limits.Limits.{Limits}
 use Rattle.port_vars.specs.Joined.{joined}
 use Rattle.port_vars.specs.Reference.{Values}
-use Rattle.port_vars.specs.Assignment.{Assignment, value_by, said}
+use Rattle.port_vars.specs.Assignment.{Assignment, value_by, said, mapped}
 
 -- variables as a finite map from names to values
 abbrev pub Vars : Type 0
@@ -57,3 +57,23 @@ unfoldable pub assignments : Limits → List ℕ → Result (List Assignment) Va
 assignments limits bytes =
     if not (nat_le (length bytes) limits.file) then Err (at_line 0 TooLong)
     else assignments_from limits [] (joined bytes)
+
+-- the variables of a file within limits, or its first fault
+abbrev pub variables_within : Limits → List ℕ → Result Vars VarsError
+variables_within limits bytes = mapped variables (assignments limits bytes)
+
+-- the limits of files but those that list categories and ports
+abbrev pub small : Limits
+small = record { file = 65536; line = 8192; value = 8192 }
+
+-- the variables of a file, or its first fault
+unfoldable pub variables_of : List ℕ → Result Vars VarsError
+variables_of bytes = variables_within small bytes
+
+abbrev pub value_where : Result (List Assignment) VarsError → Values
+value_where (Ok all) name = value_after all name
+value_where (Err fault) name = None
+
+-- the value of a name in a file: what all its assignments give it
+unfoldable pub value_in : List ℕ → Values
+value_in bytes name = value_where (assignments small bytes) name

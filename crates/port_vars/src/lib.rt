@@ -11,5 +11,7 @@ mod operator;
 mod piece;
 mod reference;
 mod trim;
+mod vars;
 
 pub use fault::{LineKind, VarsError};
+pub use vars::{Vars, read_vars};
