@@ -11,3 +11,4 @@ pub mod Changed
 pub mod Assigned
 pub mod Taken
 pub mod JoinedSoFar
+pub mod ReadSoFar
