@@ -1,5 +1,5 @@
 -- The steps by which a statement gives an assignment or a fault.
-use Rattle.std.proofs.Common.{◌≡◌, ℕ, ◌+◌, Bool, true, false, List, take, drop, cond, ap, sym, ◌∙◌, refl, Option, Some, None, Result, Ok, Err}
+use Rattle.std.proofs.Common.{◌≡◌, ℕ, ◌+◌, true, false, List, take, drop, cond, ap, ◌∙◌, refl, Option, Some, None, Result, Ok, Err}
 use Rattle.std.specs.Prelude.{◌==◌}
 use Rattle.std.specs.Option.{ok_or}
 use Rattle.std.specs.List.{position}

@@ -9,7 +9,6 @@ use Rattle.port_vars.specs.declared.fault.LineKind.{LineKind}
 use Rattle.port_vars.specs.declared.fault.LineKind.TheVariants.{TooLong}
 use Rattle.port_vars.specs.declared.operator.Operator.{Operator}
 use Rattle.port_vars.specs.declared.operator.Operator.TheVariants.{Set, Append, Default}
-use Rattle.port_vars.specs.Reference.{Values}
 use Rattle.port_vars.specs.Assignment.{Assignment, changed, value_by, within}
 use Rattle.port_vars.specs.Variables.{Vars, after}
 use Rattle.port_vars.specs.Assignment.{mapped}
@@ -34,8 +33,9 @@ changed_alike limit Default (Some value) a b h = inl refl
 
 first_alike : (limit : ℕ) (text : List ℕ) → Alike limit (take (limit + 1) text) text
 first_alike limit text = elim (cases_lt limit (length text)) [
-    inl l ↦ inr (omega (arith, length-take (limit + 1) text), l)
-  | inr g ↦ inl (take_all (limit + 1) text (omega arith)) ]
+  | inl l ↦ inr (omega (arith, length-take (limit + 1) text), l)
+  | inr g ↦ inl (take_all (limit + 1) text (omega arith))
+]
 
 too_long : (m n : ℕ) → n < m → nat_le m n ≡ false
 too_long m n l = grind (arith, nat_tests)
@@ -62,7 +62,7 @@ done_is limit vars by = done_case limit vars by (nat_le (length (value_by (map.g
 -- more of the text than the limit and one changes nothing
 pub first_bytes_do : (limit : ℕ) (vars : Vars) (name : List ℕ) (operator : Operator) (text : List ℕ)
     → mapped (after vars) (within limit (map.get vars) (record { name = name; operator = operator; text = take (limit + 1) text }))
-      ≡ mapped (after vars) (within limit (map.get vars) (record { name = name; operator = operator; text = text }))
+    ≡ mapped (after vars) (within limit (map.get vars) (record { name = name; operator = operator; text = text }))
 first_bytes_do limit vars name operator text =
     done_is limit vars (by_text name operator (take (limit + 1) text))
     ∙ alike_done limit vars name _ _ (changed_alike limit operator (map.get vars name) (take (limit + 1) text) text (first_alike limit text))

@@ -1,5 +1,5 @@
 -- What the loop over the pieces between `$` keeps.
-use Rattle.std.proofs.Common.{◌≡◌, ℕ, ◌+◌, ◌≤◌, ◌<◌, Bool, true, false, List, [], ◌∷◌, ◌++◌, length, get_or, take, drop, ap, sym, ◌∙◌, refl, Option, Some, None, Result, Ok, Err}
+use Rattle.std.proofs.Common.{◌≡◌, ℕ, ◌+◌, ◌≤◌, ◌<◌, Bool, true, false, List, [], ◌∷◌, ◌++◌, length, get_or, take, drop, ap, sym, ◌∙◌, Option, Some, None, Result, Ok, Err}
 use Rattle.std.specs.Prelude.{◌==◌}
 use Rattle.std.specs.Option.{option_map, ok_or}
 use Rattle.std.specs.List.{slice_split}
@@ -56,4 +56,4 @@ pub whole_text : (most : ℕ) (values : Values) (value out : List ℕ) (plain : 
     → ok_or (option_map (take most) (expanded values value)) Reference ≡ Ok out
 whole_text most values value out plain pieces at cut l p few so_far =
     ap (λ o. ok_or o Reference) (sym (whole_is most values value pieces cut) ∙ sym so_far ∙ ap (first_bytes most values out plain) (drop_all at pieces l) ∙ ap (λ b. first_bytes most values out b []) p
-      ∙ ap Some (ap (take most) (append-nil out) ∙ take_all most out few))
+    ∙ ap Some (ap (take most) (append-nil out) ∙ take_all most out few))

@@ -1,6 +1,5 @@
 -- The first bytes of a text that grows piece by piece.
-use Rattle.std.proofs.Common.{◌≡◌, ℕ, ◌<◌, ◌≤◌, ◌+◌, ◌-◌, List, [], ◌∷◌, ◌++◌, length, take, min, arith, ◌∙◌, sym, ap, refl, inl, inr}
-use Rattle.std.specs.Prelude.{◌⊎◌}
+use Rattle.std.proofs.Common.{◌≡◌, ℕ, ◌<◌, ◌≤◌, List, ◌++◌, length, take, arith, ◌∙◌, sym, ap, inl, inr}
 use Rattle.std.proofs.lemmas.List.{append_assoc, take_all, take-take, length-take, length-append, take-append-le}
 use Rattle.std.proofs.lemmas.Bool.{cases_lt}
 use Rattle.bulk_base.specs.Text.{IsText}
@@ -8,8 +7,9 @@ use Rattle.port_vars.proofs.TextParts.{IsText-append}
 
 pub take-take-append : (n : ℕ) (a b : List ℕ) → take n (take n a ++ b) ≡ take n (a ++ b)
 take-take-append n a b = elim (cases_lt n (length a)) [
-    inl l ↦ take-append-le n (take n a) b (omega (arith, length-take n a)) ∙ take-take n n a (omega arith) ∙ sym (take-append-le n a b (omega arith))
-  | inr g ↦ ap (λ x. take n (x ++ b)) (take_all n a (omega arith)) ]
+  | inl l ↦ take-append-le n (take n a) b (omega (arith, length-take n a)) ∙ take-take n n a (omega arith) ∙ sym (take-append-le n a b (omega arith))
+  | inr g ↦ ap (λ x. take n (x ++ b)) (take_all n a (omega arith))
+]
 
 -- a piece is put at the end, then the rest
 pub first_then : (n : ℕ) (a b c new : List ℕ) → new ≡ take n (a ++ b) → take n (new ++ c) ≡ take n (a ++ (b ++ c))

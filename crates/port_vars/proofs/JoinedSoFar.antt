@@ -2,14 +2,14 @@
 use Rattle.std.proofs.Common.{◌≡◌, ℕ, ◌+◌, ◌≤◌, ◌<◌, Bool, true, false, List, [], ◌∷◌, ◌++◌, length, get_or, drop, cond, ap, sym, ◌∙◌, refl, arith, Option, Some, None}
 use Rattle.std.specs.Prelude.{◌==◌}
 use Rattle.std.specs.List.{slice_split, onto_first}
-use Rattle.std.specs.Str.Lines.{lines, lines_of_parts, strip_carriage_return}
+use Rattle.std.specs.Str.Lines.{lines, lines_of_parts}
 use Rattle.std.proofs.lemmas.List.{append_assoc, append-nil, drop_more, drop_all, length-map}
 use Rattle.std.proofs.lemmas.List.Splits.{length-slice_split}
 use Rattle.bulk_base.specs.declared.line.Span.{Span}
 use Rattle.bulk_base.specs.Lines.{cut_at, bytes_at}
 use Rattle.port_vars.specs.declared.joined.Line.{Line}
 use Rattle.port_vars.specs.Trim.{trim_start}
-use Rattle.port_vars.specs.Joined.{ends_in_backslash, body, continued, joined_from, joined, next_line, whole}
+use Rattle.port_vars.specs.Joined.{ends_in_backslash, body, continued, joined_from, next_line, whole}
 
 abbrev tail : Bool → List (List ℕ) → List ℕ
 tail goes_on rest = cond goes_on (continued rest) []
@@ -20,11 +20,11 @@ longer line more = record { number = line.number; text = line.text ++ more }
 -- a line is taken into the joined line that it belongs to
 taken : (found : List Line) (begun : Option Line) (number : ℕ) (line : List ℕ) (rest : List (List ℕ))
     → whole found begun number (line ∷ rest)
-      ≡ found ++ longer (next_line begun number line) (tail (ends_in_backslash line) rest) ∷ joined_from (number + 1) (ends_in_backslash line) rest
+    ≡ found ++ longer (next_line begun number line) (tail (ends_in_backslash line) rest) ∷ joined_from (number + 1) (ends_in_backslash line) rest
 taken found None number line rest = refl
 taken found (Some before) number line rest =
     ap (λ t. found ++ (let l : Line = record { number = before.number; text = t } in l) ∷ joined_from (number + 1) (ends_in_backslash line) rest)
-      (sym (append_assoc before.text (32 ∷ trim_start (body line)) (tail (ends_in_backslash line) rest)))
+    (sym (append_assoc before.text (32 ∷ trim_start (body line)) (tail (ends_in_backslash line) rest)))
 
 nothing_more : (line : Line) → longer line [] ≡ line
 nothing_more line = ap (λ t. let l : Line = record { number = line.number; text = t } in l) (append-nil line.text)

@@ -1,5 +1,5 @@
 -- What the loop over the pieces between `#` keeps.
-use Rattle.std.proofs.Common.{◌≡◌, ℕ, ◌+◌, ◌-◌, ◌<◌, ◌==◌, Bool, true, false, List, [], ◌∷◌, ◌++◌, length, get_or, take, drop, cond, arith, ◌∙◌, sym, ap, refl, eqb-true, lit<}
+use Rattle.std.proofs.Common.{◌≡◌, ℕ, ◌+◌, ◌-◌, ◌<◌, true, List, [], ◌∷◌, ◌++◌, length, get_or, drop, cond, arith, ◌∙◌, sym, ap, refl, eqb-true, lit<}
 use Rattle.std.proofs.lemmas.List.{append_assoc, drop_more, length-drop}
 use Rattle.bulk_base.specs.Text.{IsText}
 use Rattle.port_vars.specs.Joined.{ends_in_backslash, without_last}

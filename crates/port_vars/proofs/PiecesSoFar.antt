@@ -1,5 +1,5 @@
 -- What the loop over a text's bytes keeps while it cuts the text at a byte.
-use Rattle.std.proofs.Common.{◌≡◌, ◌≢◌, ◌≤◌, ◌<◌, ◌+◌, ◌-◌, ◌==◌, ℕ, Bool, true, false, List, [], ◌∷◌, ◌++◌, length, get_or, take, drop, arith, inl, inr, ap, sym, ◌∙◌, refl, eqb-true}
+use Rattle.std.proofs.Common.{◌≡◌, ◌≢◌, ◌≤◌, ◌<◌, ◌+◌, ◌-◌, ◌==◌, ℕ, Bool, true, false, List, [], ◌∷◌, ◌++◌, length, get_or, take, drop, arith, inl, inr, ap, sym, ◌∙◌, eqb-true}
 use Rattle.std.specs.List.{slice_split}
 use Rattle.std.specs.Str.{IsCharBoundary}
 use Rattle.std.proofs.lemmas.List.{append_assoc}
@@ -8,7 +8,7 @@ use Rattle.std.proofs.lemmas.Bool.Decides.{nat_tests}
 use Rattle.bulk_base.specs.Text.{IsText}
 use Rattle.bulk_base.proofs.Cuts.{NonePasses, slice_split_here, slice_split_last}
 use Rattle.bulk_base.proofs.WordsSoFar.{below_or_at}
-use Rattle.port_vars.proofs.TextParts.{IsText-between, IsText-from}
+use Rattle.port_vars.proofs.TextParts.{IsText-between}
 
 abbrev pub is_cut : ℕ → ℕ → Bool
 is_cut byte b = b == byte
@@ -33,7 +33,7 @@ pieces_begin byte bytes found h e = record {
   within = omega arith;
   inside = λ k from below. absurd (omega arith);
   boundary = IsCharBoundary-start bytes h.0;
-  pieces = ap (λ f. f ++ slice_split (is_cut byte) bytes) e
+  pieces = ap (λ f. f ++ slice_split (is_cut byte) bytes) e;
 }
 
 pub pieces_go_on : (byte : ℕ) (bytes : List ℕ) (found : List (List ℕ)) (start at : ℕ) → is_cut byte (get_or bytes at 0) ≡ false → PiecesSoFar byte bytes found start at → PiecesSoFar byte bytes found start (at + 1)
@@ -42,7 +42,7 @@ pieces_go_on byte bytes found start at here so_far = record {
   within = so_far.within;
   inside = λ k from below. elim (below_or_at k at below) [ inl lt ↦ so_far.inside k from lt | inr same ↦ rw same here ];
   boundary = so_far.boundary;
-  pieces = so_far.pieces
+  pieces = so_far.pieces;
 }
 
 here_ascii : (byte : ℕ) (bytes : List ℕ) (at : ℕ) → byte < 128 → is_cut byte (get_or bytes at 0) ≡ true → get_or bytes at 0 < 128
@@ -61,12 +61,12 @@ pieces_cut byte bytes found more start at ascii h l here e so_far = record {
   inside = λ k from below. absurd (omega arith);
   boundary = IsCharBoundary-after_ascii bytes at h.0 l (here_ascii byte bytes at ascii here);
   pieces =
-    let cut = slice_split_here (is_cut byte) bytes start at so_far.order l so_far.inside here in
-    let rest : List (List ℕ) = slice_split (is_cut byte) (drop (at + 1) bytes) in
-    ap (λ m. m ++ rest) e
-    ∙ append_assoc found (take (at - start) (drop start bytes) ∷ []) rest
-    ∙ ap (λ x. found ++ x) (sym cut)
-    ∙ so_far.pieces
+      let cut = slice_split_here (is_cut byte) bytes start at so_far.order l so_far.inside here in
+      let rest : List (List ℕ) = slice_split (is_cut byte) (drop (at + 1) bytes) in
+      ap (λ m. m ++ rest) e
+      ∙ append_assoc found (take (at - start) (drop start bytes) ∷ []) rest
+      ∙ ap (λ x. found ++ x) (sym cut)
+      ∙ so_far.pieces;
 }
 
 pub pieces_end : (byte : ℕ) (bytes : List ℕ) (found more : List (List ℕ)) (start at : ℕ) → at ≡ length bytes

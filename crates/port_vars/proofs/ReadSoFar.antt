@@ -1,5 +1,5 @@
 -- What the loop over a file's joined lines keeps.
-use Rattle.std.proofs.Common.{◌≡◌, ℕ, ◌+◌, ◌≤◌, ◌<◌, Bool, true, false, not, List, [], ◌∷◌, length, get_or, drop, cond, ap, sym, subst, ◌∙◌, refl, arith, Option, Some, None, Result, Ok, Err, nat_le}
+use Rattle.std.proofs.Common.{◌≡◌, ℕ, ◌+◌, ◌≤◌, ◌<◌, Bool, true, false, not, List, [], ◌∷◌, length, get_or, drop, cond, ap, sym, ◌∙◌, refl, arith, Option, Some, None, Result, Ok, Err, nat_le}
 use Rattle.std.specs.Prelude.{bytes_eq, IfOk}
 use Rattle.std.specs.Ordering.{nat_cmp, eq_by_cmp}
 use Rattle.std.specs.Cmp.{eq_by_cmp_equiv}
@@ -16,7 +16,6 @@ use Rattle.port_vars.specs.declared.fault.VarsError.TheVariants.{BadLine, NoMemo
 use Rattle.port_vars.specs.declared.joined.Line.{Line}
 use Rattle.port_vars.specs.declared.limits.Limits.{Limits}
 use Rattle.port_vars.specs.Joined.{joined}
-use Rattle.port_vars.specs.Reference.{Values}
 use Rattle.port_vars.specs.Assignment.{Assignment, value_by, said, mapped}
 use Rattle.port_vars.specs.Variables.{Vars, value_after, variables, after, after_line, at_line, assignments_from, assignments, variables_within, small, value_where, value_in}
 use Rattle.port_vars.specs.Answers.{LeavesAt}
@@ -49,9 +48,10 @@ read_begin limits lines vars e = record { above = []; same = e; rest = refl }
 
 abbrev go_on : Limits → List Assignment → Line → List Line → Result (Option Assignment) LineKind → Result (List Assignment) VarsError
 go_on limits above line rest says = elim says [
-    Ok None ↦ assignments_from limits above rest
+  | Ok None ↦ assignments_from limits above rest
   | Ok (Some by) ↦ assignments_from limits (by ∷ above) rest
-  | Err kind ↦ Err (at_line line.number kind) ]
+  | Err kind ↦ Err (at_line line.number kind)
+]
 
 abbrev says : Limits → List Assignment → Line → Result (Option Assignment) LineKind
 says limits above line = said limits (value_after above) line.text
@@ -77,7 +77,7 @@ pub read_line : (limits : Limits) (lines : List Line) (at : ℕ) (line : Line) (
     → ReadSoFar limits lines at vars → ReadSoFar limits lines (at + 1) new
 read_line limits lines at line vars new l e h so_far =
     took limits lines at line vars new so_far.above so_far.same (says limits so_far.above line) (at_front limits lines at line vars l e so_far)
-      (ap (mapped (after_line vars)) (sym (said_same limits vars so_far.above line so_far.same)) ∙ h)
+    (ap (mapped (after_line vars)) (sym (said_same limits vars so_far.above line so_far.same)) ∙ h)
 
 failed : (limits : Limits) (line : Line) (rest : List Line) (vars : Vars) (above : List Assignment) (kind : LineKind) (s : Result (Option Assignment) LineKind)
     → mapped (after_line vars) s ≡ Err kind → go_on limits above line rest s ≡ Err (at_line line.number kind)
@@ -114,7 +114,7 @@ pub read_fault : (limits : Limits) (bytes : List ℕ) (lines : List Line) (at : 
     → (fault ≡ NoMemory → ⊥) → variables_within limits bytes ≡ Err fault
 read_fault limits bytes lines at line vars new (BadLine number kind) fits e l is so_far h some =
     ap (mapped variables) (assignments_are limits bytes lines fits e ∙ sym (at_front limits lines at line vars l is so_far)
-      ∙ failed limits line (drop (at + 1) lines) vars so_far.above kind (says limits so_far.above line) (ap (mapped (after_line vars)) (sym (said_same limits vars so_far.above line so_far.same)) ∙ h.1))
+    ∙ failed limits line (drop (at + 1) lines) vars so_far.above kind (says limits so_far.above line) (ap (mapped (after_line vars)) (sym (said_same limits vars so_far.above line so_far.same)) ∙ h.1))
     ∙ ap (λ n. Err (BadLine n kind)) (sym h.0)
 read_fault limits bytes lines at line vars new NoMemory fits e l is so_far h some = absurd (some refl)
 

@@ -1,7 +1,7 @@
 -- What a reference stands for, by the place of its `}` and the value of its name.
-use Rattle.std.proofs.Common.{◌≡◌, ℕ, ◌+◌, ◌-◌, List, ◌++◌, take, drop, ap, sym, ◌∙◌, refl, Option, Some, None}
+use Rattle.std.proofs.Common.{◌≡◌, ℕ, ◌+◌, ◌-◌, List, ◌++◌, take, drop, ap, ◌∙◌, refl, Option, Some, None}
 use Rattle.std.specs.Option.{option_and_then}
-use Rattle.port_vars.specs.Reference.{Values, value_of, close_in, referenced, ◌>>=◌}
+use Rattle.port_vars.specs.Reference.{Values, value_of, close_in, referenced}
 
 abbrev name_at : List ℕ → ℕ → List ℕ
 name_at piece close = take (close - 1) (drop 1 piece)

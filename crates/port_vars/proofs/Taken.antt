@@ -1,5 +1,5 @@
 -- What a statement and a joined line leave of the variables.
-use Rattle.std.proofs.Common.{◌≡◌, ℕ, ◌+◌, Bool, true, false, List, length, take, drop, cond, ap, sym, subst, ◌∙◌, refl, Option, Some, None, Result, Ok, Err}
+use Rattle.std.proofs.Common.{◌≡◌, ℕ, ◌+◌, true, false, List, length, take, drop, cond, ap, sym, subst, ◌∙◌, refl, Option, Some, None, Result, Ok, Err}
 use Rattle.std.specs.Prelude.{◌==◌}
 use Rattle.std.specs.Option.{ok_or, option_map}
 use Rattle.std.specs.List.{position}
@@ -41,7 +41,7 @@ text_case : (limit : ℕ) (vars : Vars) (text : List ℕ) (equals : ℕ) (first 
     → (o : Option (List ℕ)) → expanded (map.get vars) (trim (drop (equals + 1) text)) ≡ o
     → ok_or (option_map (take (limit + 1)) o) Reference ≡ Ok first
     → mapped (after vars) (within limit (map.get vars) (record { name = name_in (take equals text); operator = operator_in (take equals text); text = first }))
-      ≡ mapped (after vars) (assigned limit (map.get vars) text)
+    ≡ mapped (after vars) (assigned limit (map.get vars) text)
 text_case limit vars text equals first e good None x h = absurd (let no : (let x : Result (List ℕ) LineKind = Err Reference in x) ≡ Ok first = h in cc)
 text_case limit vars text equals first e good (Some found) x h =
     let cut : first ≡ take (limit + 1) found = cc in
@@ -56,10 +56,10 @@ pub expanded_ok : (limit : ℕ) (vars new : Vars) (text : List ℕ) (equals : �
     → Leaves (mapped (after vars) (assigned limit (map.get vars) text)) result new
 expanded_ok limit vars new text equals name first operator result e n o good h leaves =
     subst (λ says. Leaves says result new)
-      (ap (λ x. mapped (after vars) (within limit (map.get vars) (record { name = x; operator = operator; text = first }))) n
-       ∙ ap (λ x. mapped (after vars) (within limit (map.get vars) (record { name = name_in (take equals text); operator = x; text = first }))) o
-       ∙ text_case limit vars text equals first e (ap is_name (sym n) ∙ good) _ refl h)
-      leaves
+    (ap (λ x. mapped (after vars) (within limit (map.get vars) (record { name = x; operator = operator; text = first }))) n
+    ∙ ap (λ x. mapped (after vars) (within limit (map.get vars) (record { name = name_in (take equals text); operator = x; text = first }))) o
+    ∙ text_case limit vars text equals first e (ap is_name (sym n) ∙ good) _ refl h)
+    leaves
 
 -- joined lines
 said_is : (limits : Limits) (values : Values) (line : List ℕ) → said limits values line ≡ (readable limits.line line >>= λ text. stated limits.value values (statement text))
@@ -97,6 +97,6 @@ pub stated_line : (limits : Limits) (vars new : Vars) (line text : List ℕ) (re
     → Leaves (mapped (after_line vars) (said limits (map.get vars) line)) result new
 stated_line limits vars new line text result e some leaves =
     subst (λ says. Leaves says result new)
-      (sym (ap (mapped (after_line vars)) (said_readable limits (map.get vars) line text e ∙ stated_some limits.value (map.get vars) (statement text) some)
-        ∙ after_some vars (assigned limits.value (map.get vars) (statement text))))
-      leaves
+    (sym (ap (mapped (after_line vars)) (said_readable limits (map.get vars) line text e ∙ stated_some limits.value (map.get vars) (statement text) some)
+    ∙ after_some vars (assigned limits.value (map.get vars) (statement text))))
+    leaves

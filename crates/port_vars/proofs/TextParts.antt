@@ -1,11 +1,11 @@
 -- Parts of a text that is cut beside ASCII bytes are texts, and so are texts joined.
-use Rattle.std.proofs.Common.{◌≡◌, ℕ, ◌+◌, ◌-◌, ◌<◌, ◌≤◌, Bool, true, List, [], ◌∷◌, ◌++◌, length, get_or, take, drop, arith, ◌∙◌, sym, ap, refl, zero, suc}
+use Rattle.std.proofs.Common.{◌≡◌, ℕ, ◌+◌, ◌-◌, ◌<◌, ◌≤◌, Bool, true, List, [], ◌∷◌, ◌++◌, length, get_or, take, drop, arith, ◌∙◌, refl, zero, suc}
 use Rattle.std.specs.Prelude.{◌&&◌}
-use Rattle.std.specs.Str.{IsUtf8, IsAscii, IsCharBoundary}
+use Rattle.std.specs.Str.{IsAscii, IsCharBoundary}
 use Rattle.std.proofs.lemmas.Str.{IsUtf8-append, IsUtf8-between, IsUtf8-nil, IsUtf8-from_ascii, IsCharBoundary-start, IsCharBoundary-end, IsCharBoundary-after_ascii, IsCharBoundary-before_ascii}
 use Rattle.std.proofs.lemmas.List.{take_all, length-drop}
 use Rattle.std.proofs.lemmas.List.Folds.{list_all-append}
-use Rattle.bulk_base.specs.Text.{IsText, has_text_bytes, is_text_byte}
+use Rattle.bulk_base.specs.Text.{IsText, is_text_byte}
 use Rattle.bulk_base.proofs.TextBytes.{list_all-drop, list_all-take}
 
 pub IsText-nil : IsText []

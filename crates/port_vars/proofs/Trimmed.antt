@@ -1,12 +1,12 @@
 -- A text without its blanks is a text.
-use Rattle.std.proofs.Common.{◌≡◌, ℕ, ◌+◌, ◌<◌, Bool, true, false, List, [], ◌∷◌, ◌++◌, length, get_or, take, drop, cond, arith, subst, refl}
+use Rattle.std.proofs.Common.{◌≡◌, ℕ, ◌<◌, Bool, true, false, List, [], ◌∷◌, ◌++◌, length, get_or, cond, arith, subst, refl}
 use Rattle.std.specs.Prelude.{reverse}
 use Rattle.std.proofs.lemmas.List.{length-append, reverse-append, reverse-reverse}
 use Rattle.std.proofs.lemmas.Bool.Decides.{nat_tests}
 use Rattle.std.proofs.Math.Seq.{take-append_seam}
 use Rattle.bulk_base.specs.Text.{IsText}
 use Rattle.bulk_base.specs.Words.{is_blank}
-use Rattle.port_vars.specs.Trim.{trim_start, trim_end, trim}
+use Rattle.port_vars.specs.Trim.{trim_start, trim}
 use Rattle.port_vars.proofs.TextParts.{IsText-after, IsText-before}
 
 blank_ascii : (b : ℕ) → is_blank b ≡ true → b < 128

@@ -1,5 +1,5 @@
 -- What a joined line says: nothing, an assignment or a fault (docs/FORMATS.md, "Variable files").
-use Rattle.std.specs.Prelude.{ℕ, ◌+◌, Bool, ◌==◌, ◌&&◌, ◌||◌, not, nat_le, List, ◌∷◌, ◌++◌, length, slice_index, ◌-◌, take, drop, if◌then◌else◌}
+use Rattle.std.specs.Prelude.{ℕ, ◌+◌, ◌==◌, ◌&&◌, ◌||◌, not, nat_le, List, ◌∷◌, ◌++◌, length, slice_index, ◌-◌, take, drop, if◌then◌else◌}
 use Rattle.std.specs.declared.option.Option.{Option}
 use Rattle.std.specs.declared.option.Option.TheVariants.{None, Some}
 use Rattle.std.specs.declared.result.Result.{Result}

@@ -1,5 +1,5 @@
 -- Comments (docs/FORMATS.md, "Variable files").
-use Rattle.std.specs.Prelude.{ℕ, Bool, ◌==◌, List, [], ◌∷◌, ◌++◌, if◌then◌else◌}
+use Rattle.std.specs.Prelude.{ℕ, ◌==◌, List, [], ◌∷◌, ◌++◌, if◌then◌else◌}
 use Rattle.std.specs.List.{slice_split}
 use Rattle.port_vars.specs.Joined.{ends_in_backslash, without_last}
 

@@ -48,9 +48,10 @@ at_line line kind = BadLine line kind
 abbrev pub assignments_from : Limits → List Assignment → List Line → Result (List Assignment) VarsError
 assignments_from limits above [] = Ok above
 assignments_from limits above (line ∷ rest) = elim (said limits (value_after above) line.text) [
-    Ok None ↦ assignments_from limits above rest
+  | Ok None ↦ assignments_from limits above rest
   | Ok (Some by) ↦ assignments_from limits (by ∷ above) rest
-  | Err kind ↦ Err (at_line line.number kind) ]
+  | Err kind ↦ Err (at_line line.number kind)
+]
 
 -- the assignments of a file, the last first, or its first fault
 unfoldable pub assignments : Limits → List ℕ → Result (List Assignment) VarsError

@@ -35,7 +35,12 @@ fn appended(alloc: Global, value: &Text, text: &[u8]) -> Result<Bytes, NoMemory>
 }
 
 /// The value of a variable after an assignment.
-fn changed(alloc: Global, operator: Operator, before: Option<&Text>, text: &[u8]) -> Result<Bytes, NoMemory>
+fn changed(
+    alloc: Global,
+    operator: Operator,
+    before: Option<&Text>,
+    text: &[u8],
+) -> Result<Bytes, NoMemory>
     ensures value { IfOk result (λ new. new ≡ changed operator (option_copied before.entry) text.now) }
     ensures form { (most : ℕ) → (length text.now < most → IsText text.now) → IfOk result (λ new. length new < most → IsText new) }
 {
@@ -50,7 +55,14 @@ fn changed(alloc: Global, operator: Operator, before: Option<&Text>, text: &[u8]
 }
 
 /// Gives a variable its value after an assignment. TooLong exactly where the value has more than `limit` bytes.
-fn assign(alloc: Global, limit: u32, name: &[u8], operator: Operator, text: &[u8], vars: &mut TextMap<Text>) -> Result<(), LineError>
+fn assign(
+    alloc: Global,
+    limit: u32,
+    name: &[u8],
+    operator: Operator,
+    text: &[u8],
+    vars: &mut TextMap<Text>,
+) -> Result<(), LineError>
     requires name { IsTrue (is_name name.now) }
     requires form { length text.now < limit + 1 → IsText text.now }
     ensures { Leaves
@@ -68,7 +80,12 @@ fn assign(alloc: Global, limit: u32, name: &[u8], operator: Operator, text: &[u8
 }
 
 /// Makes the assignment that a statement states.
-fn take_assignment(alloc: Global, limit: u32, statement: &[u8], vars: &mut TextMap<Text>) -> Result<(), LineError>
+fn take_assignment(
+    alloc: Global,
+    limit: u32,
+    statement: &[u8],
+    vars: &mut TextMap<Text>,
+) -> Result<(), LineError>
     requires { IsText statement.now }
     ensures { Leaves (mapped (after vars.old) (assigned limit (map.get vars.old) statement.now)) result vars.new }
 {
@@ -82,7 +99,14 @@ fn take_assignment(alloc: Global, limit: u32, statement: &[u8], vars: &mut TextM
     }
     let value = text_of(alloc, trim(&statement[equals + 1..]))?;
     let text = expanded(alloc, vars, &value, limit as usize + 1)?;
-    assign(alloc, limit, name, operator_of(before), text.as_slice(), vars)
+    assign(
+        alloc,
+        limit,
+        name,
+        operator_of(before),
+        text.as_slice(),
+        vars,
+    )
 }
 
 /// A joined line as a text. NotText exactly where it is none, else TooLong exactly where it has more than `limit` bytes.
@@ -102,7 +126,12 @@ fn readable(alloc: Global, limit: u32, line: &[u8]) -> Result<Text, LineError>
 
 /// Makes the assignment that a joined line states, if any. Its cost is the length of the line and of the variable's value
 /// after it, and a look-up for each name in it.
-pub(crate) fn take_line(alloc: Global, limits: Limits, line: &[u8], vars: &mut TextMap<Text>) -> Result<(), LineError>
+pub(crate) fn take_line(
+    alloc: Global,
+    limits: Limits,
+    line: &[u8],
+    vars: &mut TextMap<Text>,
+) -> Result<(), LineError>
     ensures { Leaves (mapped (after_line vars.old) (said limits (map.get vars.old) line.now)) result vars.new }
 {
     let line = uncommented(alloc, &readable(alloc, limits.line, line)?)?;

@@ -38,7 +38,11 @@ pub(crate) fn without_last(text: &[u8]) -> &[u8]
 fn body(line: &[u8]) -> &[u8]
     ensures { result.now ≡ body line.now }
 {
-    if ends_in_backslash(line) { without_last(line) } else { line }
+    if ends_in_backslash(line) {
+        without_last(line)
+    } else {
+        line
+    }
 }
 
 /// The joined line that a line begins or goes on with.
@@ -63,7 +67,13 @@ fn next_line(alloc: Global, begun: Option<Line>, number: u32, line: &[u8]) -> Re
 }
 
 /// Takes a line into the joined lines; answers the one that the next line goes on with.
-fn take_line(alloc: Global, found: &mut Lines, begun: Option<Line>, number: u32, line: &[u8]) -> Result<Option<Line>, NoMemory>
+fn take_line(
+    alloc: Global,
+    found: &mut Lines,
+    begun: Option<Line>,
+    number: u32,
+    line: &[u8],
+) -> Result<Option<Line>, NoMemory>
     ensures { IfOk result (λ next. (rest : List (List ℕ)) →
         whole found.old begun number (line.now ∷ rest) ≡ whole found.new next (number + 1) rest) }
 {

@@ -10,8 +10,11 @@ use crate::trim::trim;
 fn has_name_bytes(text: &[u8]) -> bool
     ensures { result ≡ list_all is_name_byte text.now }
 {
-    text.iter()
-        .all(|b| b.is_ascii_alphanumeric() || *b == b'_' || *b == b'-' || *b == b'.' || *b == b'+')
+    text.iter().all(|b| b.is_ascii_alphanumeric()
+        || *b == b'_'
+        || *b == b'-'
+        || *b == b'.'
+        || *b == b'+')
 }
 
 /// Whether a text is a name: 1 to 160 letters, digits, `_`, `-`, `.` and `+`.

@@ -14,7 +14,11 @@ use bulk_base::{Bytes, NoMemory, Sequence, Text, TextMap};
 use std::alloc::Global;
 
 /// The value of a name; None where it is no name or is not set.
-fn value_of<'a>(alloc: Global, vars: &'a TextMap<Text>, name: &[u8]) -> Result<Option<&'a Text>, NoMemory>
+fn value_of<'a>(
+    alloc: Global,
+    vars: &'a TextMap<Text>,
+    name: &[u8],
+) -> Result<Option<&'a Text>, NoMemory>
     ensures { IfOk result (λ value. option_copied value ≡ value_of (map.get vars.now) name.now) }
 {
     if !is_name(name) {
@@ -30,7 +34,11 @@ fn push_most(out: &mut Vec<u8>, most: usize, piece: &[u8]) -> Result<(), NoMemor
     ensures { OnOk result (out.new.items ≡ take most (out.old.items ++ piece.now)) }
 {
     let room = most - out.len();
-    let end = if room < piece.len() { room } else { piece.len() };
+    let end = if room < piece.len() {
+        room
+    } else {
+        piece.len()
+    };
     out.extend_from_slice(&piece[..end])?;
     Ok(())
 }
@@ -47,7 +55,13 @@ fn close_of(piece: &[u8]) -> Option<usize>
 }
 
 /// Puts what `{NAME}` and the bytes behind it stand for at the end of a text.
-fn push_reference(alloc: Global, vars: &TextMap<Text>, piece: &Text, most: usize, out: &mut Vec<u8>) -> Result<(), LineError>
+fn push_reference(
+    alloc: Global,
+    vars: &TextMap<Text>,
+    piece: &Text,
+    most: usize,
+    out: &mut Vec<u8>,
+) -> Result<(), LineError>
     requires { length out.old.items ≤ most }
     ensures text { Leaves
         (ok_or (option_map (λ text. take most (out.old.items ++ text)) (referenced (map.get vars.now) piece.now)) Faulty)
@@ -68,7 +82,14 @@ fn push_reference(alloc: Global, vars: &TextMap<Text>, piece: &Text, most: usize
 
 /// Puts what the next piece between `$` stands for at the end of a text; answers whether the piece behind it stands for
 /// itself.
-fn push_piece(alloc: Global, vars: &TextMap<Text>, piece: &Text, plain: bool, most: usize, out: &mut Vec<u8>) -> Result<bool, LineError>
+fn push_piece(
+    alloc: Global,
+    vars: &TextMap<Text>,
+    piece: &Text,
+    plain: bool,
+    most: usize,
+    out: &mut Vec<u8>,
+) -> Result<bool, LineError>
     requires { length out.old.items ≤ most }
     ensures text { IfOk result (λ next. (more : List (List ℕ)) →
         first_bytes most (map.get vars.now) out.old.items plain (piece.now ∷ more) ≡ first_bytes most (map.get vars.now) out.new.items next more) }
@@ -91,7 +112,12 @@ fn push_piece(alloc: Global, vars: &TextMap<Text>, piece: &Text, plain: bool, mo
 
 /// The first `most` bytes of the text that a value stands for. Reference exactly where the value holds a `$` that begins
 /// neither `$$` nor a reference to a name that is set.
-pub(crate) fn expanded(alloc: Global, vars: &TextMap<Text>, value: &Text, most: usize) -> Result<Bytes, LineError>
+pub(crate) fn expanded(
+    alloc: Global,
+    vars: &TextMap<Text>,
+    value: &Text,
+    most: usize,
+) -> Result<Bytes, LineError>
     ensures text { Answers (ok_or (option_map (take most) (expanded (map.get vars.now) value.now)) Faulty) result }
     ensures form { IfOk result (λ text. length text < most → IsText text) }
 {

@@ -44,7 +44,12 @@ impl Vars {
 }
 
 /// Makes the assignment that a joined line states, if any; a fault is at the line's number.
-fn take_numbered(alloc: Global, limits: Limits, line: &Line, vars: &mut TextMap<Text>) -> Result<(), VarsError>
+fn take_numbered(
+    alloc: Global,
+    limits: Limits,
+    line: &Line,
+    vars: &mut TextMap<Text>,
+) -> Result<(), VarsError>
     ensures { LeavesAt line.now.number (mapped (after_line vars.old) (said limits (map.get vars.old) line.now.text)) result vars.new }
 {
     match take_line(alloc, limits, line.text.as_slice(), vars) {

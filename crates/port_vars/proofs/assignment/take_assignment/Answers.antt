@@ -1,13 +1,12 @@
-use Rattle.std.proofs.Common.{◌≡◌, ◌∙◌, ◌+◌, ◌-◌, true, false, Ok, Err, ap, sym, subst, arith, take, drop, length}
+use Rattle.std.proofs.Common.{◌≡◌, ◌∙◌, ◌+◌, true, false, Ok, Err, ap, sym, subst, arith, take, drop}
 use Rattle.std.specs.Option.{ok_or, option_map}
 use Rattle.std.specs.FinMap as map
 use Rattle.port_vars.specs.declared.fault.LineKind.TheVariants.{Reference as Faulty}
 use Rattle.port_vars.specs.Answers.{Answers}
 use Rattle.std.proofs.lemmas.Result.{err_from_is_err_and}
-use Rattle.bulk_base.specs.Text.{IsText}
 use Rattle.port_vars.specs.Trim.{trim}
 use Rattle.port_vars.specs.Reference.{is_name, expanded}
-use Rattle.port_vars.specs.Assignment.{name_in, operator_in, mapped}
+use Rattle.port_vars.specs.Assignment.{mapped}
 use Rattle.port_vars.specs.Variables.{after}
 use Rattle.port_vars.proofs.TextParts.{IsText-after, rest_is}
 use Rattle.port_vars.proofs.Trimmed.{IsText-trim}
@@ -33,15 +32,15 @@ returns-in_err-text c =
     let p = err_from_is_err_and c.from_residual-in_err-text.result c.from_residual-in_err-text.ensures.1 in
     let good : c.is_name.result ≡ true = grind arith in
     rw (p.1, p.2) (expanded_err c.args.limit c.args.vars.now c.args.vars.now c.args.statement.now c.in-Some.equals c.in_err-text.field-0.0 (sym c.in-Some.ensures.value)
-      (ap is_name (sym c.name_of-name.ensures) ∙ sym c.is_name.ensures ∙ good)
-      (let value : c.in_ok-value.value ≡ trim (drop (c.in-Some.equals + 1) c.args.statement.now) = c.in_ok-value.ensures ∙ c.trim.ensures ∙ ap trim (rest_is c.args.statement.now (c.in-Some.equals + 1)) in
-       subst (λ v. Answers (ok_or (option_map (take (c.args.limit + 1)) (expanded (map.get c.args.vars.now) v)) Faulty) (Err c.in_err-text.field-0.0)) value c.in_err-text.ensures.text))
+    (ap is_name (sym c.name_of-name.ensures) ∙ sym c.is_name.ensures ∙ good)
+    (let value : c.in_ok-value.value ≡ trim (drop (c.in-Some.equals + 1) c.args.statement.now) = c.in_ok-value.ensures ∙ c.trim.ensures ∙ ap trim (rest_is c.args.statement.now (c.in-Some.equals + 1)) in
+    subst (λ v. Answers (ok_or (option_map (take (c.args.limit + 1)) (expanded (map.get c.args.vars.now) v)) Faulty) (Err c.in_err-text.field-0.0)) value c.in_err-text.ensures.text))
 
 pub returns : goal.returns
 returns c =
     let good : c.is_name.result ≡ true = grind arith in
     expanded_ok c.args.limit c.args.vars.now c.assign.new.vars c.args.statement.now c.in-Some.equals c.name_of-name.result.now c.as_slice.result.now c.operator_of.result c.assign.result
-      (sym c.in-Some.ensures.value) c.name_of-name.ensures c.operator_of.ensures (sym c.is_name.ensures ∙ good)
-      (let value : c.in_ok-value.value ≡ trim (drop (c.in-Some.equals + 1) c.args.statement.now) = c.in_ok-value.ensures ∙ c.trim.ensures ∙ ap trim (rest_is c.args.statement.now (c.in-Some.equals + 1)) in
-       ap (λ v. ok_or (option_map (take (c.args.limit + 1)) (expanded (map.get c.args.vars.now) v)) Faulty) (sym value) ∙ c.in_ok-text.ensures.text ∙ ap Ok (sym c.as_slice.ensures))
-      c.assign.ensures
+    (sym c.in-Some.ensures.value) c.name_of-name.ensures c.operator_of.ensures (sym c.is_name.ensures ∙ good)
+    (let value : c.in_ok-value.value ≡ trim (drop (c.in-Some.equals + 1) c.args.statement.now) = c.in_ok-value.ensures ∙ c.trim.ensures ∙ ap trim (rest_is c.args.statement.now (c.in-Some.equals + 1)) in
+    ap (λ v. ok_or (option_map (take (c.args.limit + 1)) (expanded (map.get c.args.vars.now) v)) Faulty) (sym value) ∙ c.in_ok-text.ensures.text ∙ ap Ok (sym c.as_slice.ensures))
+    c.assign.ensures

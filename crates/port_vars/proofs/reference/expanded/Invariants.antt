@@ -8,5 +8,5 @@ abbrev pub invariant-loop-piece : goal.invariant-loop-piece
 invariant-loop-piece l = record {
   size : length l.out.items ≤ l.most;
   form : length l.out.items < l.most → IsText l.out.items;
-  text : first_bytes l.most (map.get l.vars) l.out.items l.plain (drop l.piece-index l.piece-items) ≡ first_bytes l.most (map.get l.vars) [] true l.piece-items
+  text : first_bytes l.most (map.get l.vars) l.out.items l.plain (drop l.piece-index l.piece-items) ≡ first_bytes l.most (map.get l.vars) [] true l.piece-items;
 }

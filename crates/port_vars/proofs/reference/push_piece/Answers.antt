@@ -1,5 +1,4 @@
-use Rattle.std.proofs.Common.{◌≡◌, ◌∙◌, lit<, refl}
-use Rattle.bulk_base.specs.Text.{IsText}
+use Rattle.std.proofs.Common.{lit<, refl}
 use Rattle.port_vars.proofs.TextParts.{IsText-byte}
 use Rattle.port_vars.proofs.FirstBytes.{first_is_text}
 use Rattle.port_vars.proofs.reference.push_piece.Goals as goal
