@@ -6,7 +6,10 @@ use Rattle.outside.specs.Contents.{Contents, files_below}
 use Rattle.bulk_model.specs.Files.{file_at, files_in}
 use Rattle.bulk_model.specs.Facts.{IsFileList}
 use Rattle.bulk_model.specs.Views.{JobView}
-use Rattle.bulk_run.specs.FirstPath.{is_large, tree_refusal, first_job}
+use Rattle.std.specs.Option.{option_map}
+use Rattle.bulk_run.specs.PortFile.{PortFile}
+use Rattle.bulk_run.specs.FirstPath.{is_large, large_file, files_folder, job_of, refusal_by_port, tree_refusal, first_job}
+use Rattle.bulk_run.specs.declared.answer.Answer.TheVariants.{NotYet}
 use Rattle.bulk_run.specs.declared.answer.Answer.{Answer}
 use Rattle.bulk_run.specs.declared.port_tree.PortFiles.{PortFiles}
 use Rattle.bulk_run.specs.declared.port_tree.PortFiles.TheVariants.{Large, Whole}
@@ -27,6 +30,16 @@ AreTaken folder content (Whole files) = (find (is_large content) (files_below fo
 abbrev pub AreInForm : PortFiles → Type 0
 AreInForm (Large path) = Unit {0}
 AreInForm (Whole files) = IsFileList 1019 files
+
+-- a port's refusal by its files, or its job
+abbrev pub IsFoundInFiles : Contents → List ℕ → PortFile → Found → Type 0
+IsFoundInFiles content word file (Refused answer) = option_map NotYet (large_file content word) ≡ Some answer
+IsFoundInFiles content word file (Port job) = (large_file content word ≡ None) × (job ≡ job_of word file (files_in (files_folder word) content))
+
+-- a port's refusal, or its job
+abbrev pub IsFoundByPort : Contents → List ℕ → Found → Type 0
+IsFoundByPort content word (Refused answer) = refusal_by_port content word ≡ Some answer
+IsFoundByPort content word (Port job) = (refusal_by_port content word ≡ None) × (first_job content word ≡ Some job)
 
 -- a word's refusal, or its job where nothing is refused
 abbrev pub IsFound : Contents → List ℕ → Found → Type 0
