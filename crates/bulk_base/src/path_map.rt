@@ -1,8 +1,9 @@
 // A map from paths that contracts see as a finite map.
-ghost use Rattle.std.specs.Prelude.{◌≡◌, filter, OnOk, OnErr, IfOk};
+ghost use Rattle.std.specs.Prelude.{◌≡◌, ◌||◌, filter, OnOk, OnErr, IfOk};
 ghost use Rattle.std.specs.Option.{option_copied};
 ghost use Rattle.std.specs.Ordering.{nat_cmp};
 ghost use Rattle.std.specs.Cmp.Lexicographic.{slice_cmp};
+ghost use Rattle.std.specs.List.{list_any};
 ghost use Rattle.std.specs.List.Sorted.{IsStrictlySortedBy};
 ghost use Rattle.std.specs.FinMap as map;
 ghost use Rattle.bulk_base.specs.Path.{is_below};
@@ -50,6 +51,15 @@ impl<V> PathMap<V> {
         ensures { option_copied result ≡ map.get self.now key.now }
     {
         self.entries.get(key)
+    }
+
+    /// Whether a path is a folder of one that has a value, or below one.
+    pub fn has_nested(&self, path: &Path) -> bool
+        ensures { result ≡ list_any (λ other. is_below path.now other || is_below other path.now) (map.keys self.now) }
+    {
+        self.entries
+            .keys()
+            .any(|other| other.is_below(path) || path.is_below(other))
     }
 
     /// All paths that have a value, in byte order, each once.

@@ -54,23 +54,41 @@ fn forms(rt: HostRuntime) -> Result<(), Fail> {
 }
 
 #[test]
-fn paths_together(rt: HostRuntime) -> Result<(), Fail> {
+fn a_path_spelled(rt: HostRuntime) -> Result<(), Fail> {
     let alloc = rt.alloc();
-    let folder = Path::from_bytes(alloc, b"a/b")?;
-    let rest = Path::from_text(alloc, &Text::from_bytes(alloc, b"c")?)?;
+    let text = Text::from_bytes(alloc, b"a/b")?;
+    let folder = Path::from_text(alloc, &text)?;
+    let rest = Path::from_bytes(alloc, b"c")?;
     let file = folder.join(alloc, &rest)?;
-    assert_eq!(rt; file.text().as_str(), "a/b/c");
-    assert!(rt;
-        folder < file && file.is_below(&folder) && file.collides(&folder) && !folder.is_below(&file)
-    );
-    assert!(rt;
-        !Path::from_bytes(alloc, b"a/bc")?.collides(&folder)
-            && folder.copy(alloc)?.collides(&folder)
-    );
+    let copy = file.copy(alloc)?;
+    assert_eq!(rt; copy.text().as_str(), "a/b/c");
+    Ok(())
+}
+
+#[test]
+fn joined_paths(rt: HostRuntime) -> Result<(), Fail> {
+    let alloc = rt.alloc();
     let long = Path::from_bytes(alloc, &long_path(alloc, 1000)?)?;
     for (length, fits) in [(23, true), (24, false)] {
         let rest = Path::from_bytes(alloc, &long_path(alloc, length)?)?;
         assert_eq!(rt; long.join(alloc, &rest).is_ok(), fits);
+    }
+    Ok(())
+}
+
+#[test]
+fn placed_paths(rt: HostRuntime) -> Result<(), Fail> {
+    let alloc = rt.alloc();
+    let folder = Path::from_bytes(alloc, b"a/b")?;
+    for (bytes, is_below, collides) in [
+        (b"a/b".as_slice(), false, true),
+        (b"a/b/c".as_slice(), true, true),
+        (b"a".as_slice(), false, true),
+        (b"a/bc".as_slice(), false, false),
+    ] {
+        let path = Path::from_bytes(alloc, bytes)?;
+        assert_eq!(rt; path.is_below(&folder), is_below);
+        assert_eq!(rt; path.collides(&folder), collides);
     }
     Ok(())
 }

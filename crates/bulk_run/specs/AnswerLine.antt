@@ -1,5 +1,5 @@
 -- What a run prints in place of its lists, and its exit status (docs/FORMATS.md).
-use Rattle.std.specs.Prelude.{ℕ, Bool, true, false, List, [], ◌++◌, codes}
+use Rattle.std.specs.Prelude.{ℕ, List, [], ◌++◌, codes}
 use Rattle.std.specs.Fmt.{decimal}
 use Rattle.bulk_model.specs.Spelling.{line}
 use Rattle.bulk_run.specs.declared.answer.Answer.{Answer}

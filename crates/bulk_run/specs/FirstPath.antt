@@ -34,14 +34,19 @@ first_of (x ∷ xs) = Some x
 abbrev pub file_there : Contents → List ℕ → Option (List ℕ)
 file_there content path = if contains_key content path then Some path else None
 
+-- the first file that is not served yet, from one place in their order on
+abbrev pub unserved_from_moved : Contents → Option (List ℕ)
+unserved_from_moved content = option_or (file_there content (codes "ports/MOVED")) (first_of (files_below (codes "base") content))
+
+abbrev pub unserved_from_conf : Contents → Option (List ℕ)
+unserved_from_conf content = option_or (file_there content (codes "etc/poudriere.conf")) (unserved_from_moved content)
+
+abbrev pub unserved_from_options : Contents → Option (List ℕ)
+unserved_from_options content = option_or (first_of (files_below (codes "etc/options") content)) (unserved_from_conf content)
+
 -- the first file that is not served yet
 abbrev pub unserved : Contents → Option (List ℕ)
-unserved content =
-    option_or (file_there content (codes "etc/make.conf"))
-    (option_or (first_of (files_below (codes "etc/options") content))
-    (option_or (file_there content (codes "etc/poudriere.conf"))
-    (option_or (file_there content (codes "ports/MOVED"))
-    (first_of (files_below (codes "base") content)))))
+unserved content = option_or (file_there content (codes "etc/make.conf")) (unserved_from_options content)
 
 -- where a port stands in the tree
 abbrev pub port_folder : List ℕ → List ℕ
@@ -57,10 +62,12 @@ files_folder word = joined (port_folder word) (codes "files")
 abbrev pub most_file_bytes : ℕ
 most_file_bytes = 4194304
 
+abbrev pub is_large : Contents → List ℕ → Bool
+is_large content path = nat_lt most_file_bytes (length (unwrap_or (get content path) []))
+
 -- the port's first file that is too large
 abbrev pub large_file : Contents → List ℕ → Option (List ℕ)
-large_file content word =
-    find (λ path. nat_lt most_file_bytes (length (unwrap_or (get content path) []))) (files_below (files_folder word) content)
+large_file content word = find (is_large content) (files_below (files_folder word) content)
 
 -- a command of the words of a value, or none where it has no word
 abbrev pub commands_of : List ℕ → List (List (List ℕ))

@@ -50,7 +50,7 @@ fn take_file<R: Room>(
 }
 
 // Puts a file at the end of a list, if there is one.
-fn push_found(files: &mut Files, found: Option<FileItem>) -> Result<(), NoMemory>
+pub(crate) fn push_found(files: &mut Files, found: Option<FileItem>) -> Result<(), NoMemory>
     ensures { OnOk result (files.new ≡ files.old ++ option_to_list found) }
 {
     if let Some(file) = found {

@@ -48,5 +48,5 @@ abbrev pub counted : CallKind → Failing → Failing
 counted call failing = record {
   planned = failing.planned;
   calls = slice_set failing.calls (place_of call) (next_number call failing);
-  faults = (if fails_next call failing then one_more failing.faults else failing.faults)
+  faults = (if fails_next call failing then one_more failing.faults else failing.faults);
 }

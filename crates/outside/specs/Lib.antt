@@ -3,3 +3,8 @@ pub mod Contents
 pub mod Changes
 pub mod Outcomes
 pub mod Failures
+pub mod Given
+pub mod Errors
+pub mod InMemory
+pub mod Kept
+pub mod Programs

@@ -1,6 +1,6 @@
 // Which calls of an object in memory fail, and how many did.
-ghost use Rattle.std.specs.Prelude.{◌≡◌, ◌<◌, [], IsTrue};
-ghost use Rattle.outside.specs.Failures.{Failing, place_of, is_planned, fails_next, counted, fresh};
+ghost use Rattle.std.specs.Prelude.{◌≡◌, ◌<◌, ◌^◌, []};
+ghost use Rattle.outside.specs.Failures.{fails_next, counted, fresh};
 
 use bulk_base::Sequence;
 use std::marker::Model;
@@ -102,6 +102,7 @@ impl Failures {
     pub(crate) fn fails(&mut self, call: CallKind) -> bool
         ensures planned { result ≡ fails_next call self.old }
         ensures counted { self.new ≡ counted call self.old }
+        ensures small { self.old.faults < 2 ^ 64 }
     {
         let place = place_of(call);
         let number = self.calls[place].saturating_add(1);
