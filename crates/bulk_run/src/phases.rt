@@ -18,6 +18,13 @@ pub(crate) struct Stop {
     pub(crate) code: u8,
 }
 
+// That a phase failed.
+fn stopped(phase: Phase, code: u8) -> Option<Stop>
+    ensures { result ≡ Some (record { phase = phase; code = code }) }
+{
+    Some(Stop { phase, code })
+}
+
 // Runs commands one after another, up to the first whose status is not 0, and answers the last one's status.
 fn run_commands<R: Room>(alloc: Global, room: &mut R, commands: &[Command]) -> Result<u8, Outer>
     ensures told { IsTrue R.Ways.tells → IfOk result (λ status. run_all R.Ways.runs commands.now (R.folder room.old) ≡ (status, R.folder room.new)) }
@@ -45,38 +52,23 @@ pub(crate) fn run_phases<R: Room>(
 {
     let code = run_commands(alloc, room, job.steps.extract.as_slice())?;
     if code != 0 {
-        return Ok(Some(Stop {
-            phase: Phase::Extract,
-            code,
-        }));
+        return Ok(stopped(Phase::Extract, code));
     }
     let code = run_commands(alloc, room, job.steps.patch.as_slice())?;
     if code != 0 {
-        return Ok(Some(Stop {
-            phase: Phase::Patch,
-            code,
-        }));
+        return Ok(stopped(Phase::Patch, code));
     }
     let code = run_commands(alloc, room, job.steps.configure.as_slice())?;
     if code != 0 {
-        return Ok(Some(Stop {
-            phase: Phase::Configure,
-            code,
-        }));
+        return Ok(stopped(Phase::Configure, code));
     }
     let code = run_commands(alloc, room, job.steps.build.as_slice())?;
     if code != 0 {
-        return Ok(Some(Stop {
-            phase: Phase::Build,
-            code,
-        }));
+        return Ok(stopped(Phase::Build, code));
     }
     let code = run_commands(alloc, room, job.steps.stage.as_slice())?;
     if code != 0 {
-        return Ok(Some(Stop {
-            phase: Phase::Stage,
-            code,
-        }));
+        return Ok(stopped(Phase::Stage, code));
     }
     Ok(None)
 }

@@ -1,8 +1,9 @@
 // A port without dependencies, built in a room.
-ghost use Rattle.std.specs.Prelude.{◌≡◌, [], ◌∷◌, ◌++◌, IsTrue, IfOk, OnOk, OnErr};
+ghost use Rattle.std.specs.Prelude.{◌≡◌, ◌<◌, [], ◌∷◌, ◌++◌, IsTrue, IfOk, OnOk, OnErr};
 ghost use Rattle.outside.specs.Outcomes.{GrewByAtMost};
 ghost use Rattle.outside.specs.Faults.{HasCause};
-ghost use Rattle.bulk_model.specs.Bake.{bake};
+ghost use Rattle.bulk_model.specs.Bake.{bake, packed, staged};
+ghost use Rattle.bulk_model.specs.Weight.{most_weight};
 ghost use Rattle.bulk_model.specs.Baked.{IsOutcomeOf};
 
 use crate::furnishing::furnish;
@@ -12,6 +13,18 @@ use crate::staging::staged_files;
 use bulk_model::{Job, Outcome};
 use outside::{Outer, Room};
 use std::alloc::Global;
+
+// What comes of a build that staged its files, where so many bytes of a file are already too heavy.
+fn pack_staged<R: Room>(alloc: Global, room: &mut R, job: &Job, most: u64) -> Result<Outcome, Outer>
+    requires { most_weight < most }
+    ensures told { IsTrue R.Ways.tells → IfOk result (λ outcome. outcome ≡ packed job.now (staged (R.folder room.old))) }
+    ensures fields { IfOk result (IsOutcomeOf job.now) }
+    ensures begun { R.begun room.new ≡ R.begun room.old }
+    ensures cause { HasCause (R.faults room.old) (R.faults room.new) result }
+{
+    let files = staged_files(alloc, room, most)?;
+    Ok(pack(alloc, job, files)?)
+}
 
 /// Builds a port that has no dependencies in a room, with nothing installed there.
 ///
@@ -31,7 +44,5 @@ pub(crate) fn build<R: Room>(alloc: Global, room: &mut R, job: &Job) -> Result<O
             code: stop.code,
         });
     }
-    // Of a file with more bytes than these the package is too heavy.
-    let files = staged_files(alloc, room, MOST_WEIGHT + 1)?;
-    Ok(pack(alloc, job, files)?)
+    pack_staged(alloc, room, job, MOST_WEIGHT + 1)
 }
