@@ -8,3 +8,4 @@ pub mod PortSettings
 pub mod PortLines
 pub mod PortName
 pub mod OneList
+pub mod ExamplePackage
