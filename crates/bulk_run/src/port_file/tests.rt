@@ -27,11 +27,26 @@ fn settings(rt: HostRuntime) -> Result<(), Fail> {
     let alloc = rt.alloc();
     for (bytes, wanted) in [
         (b"PORTNAME=x\nPORTVERSION=1.0\n".as_slice(), true),
-        (b"DO_STAGE=c\nPORTVERSION=1.0\nDO_BUILD=a b\nPORTNAME=x\n".as_slice(), true),
-        (b"PORTNAME=x\nPORTVERSION=1.0\nDO_BUILD=\nDO_STAGE=\n".as_slice(), true),
-        (b"PORTNAME=x\nPORTVERSION=1.0\nDO_BUILD=a=b\n".as_slice(), true),
-        (b"PORTNAME=x\nPORTVERSION=1.0\nDO_BUILD=a  b\n".as_slice(), true),
-        (b"PORTNAME=x\nPORTVERSION=1.0\nDO_BUILD=\xc3\xa9\n".as_slice(), true),
+        (
+            b"DO_STAGE=c\nPORTVERSION=1.0\nDO_BUILD=a b\nPORTNAME=x\n".as_slice(),
+            true,
+        ),
+        (
+            b"PORTNAME=x\nPORTVERSION=1.0\nDO_BUILD=\nDO_STAGE=\n".as_slice(),
+            true,
+        ),
+        (
+            b"PORTNAME=x\nPORTVERSION=1.0\nDO_BUILD=a=b\n".as_slice(),
+            true,
+        ),
+        (
+            b"PORTNAME=x\nPORTVERSION=1.0\nDO_BUILD=a  b\n".as_slice(),
+            true,
+        ),
+        (
+            b"PORTNAME=x\nPORTVERSION=1.0\nDO_BUILD=\xc3\xa9\n".as_slice(),
+            true,
+        ),
         (b"PORTNAME=_-x9\nPORTVERSION=.a\n".as_slice(), true),
         (b"".as_slice(), false),
         (b"\n".as_slice(), false),
@@ -42,13 +57,34 @@ fn settings(rt: HostRuntime) -> Result<(), Fail> {
         (b"PORTNAME=x\nPORTVERSION=1.0\n\n".as_slice(), false),
         (b"PORTNAME=x\nPORTVERSION=1.0\nX+=1\n".as_slice(), false),
         (b"PORTNAME=x\nPORTVERSION=1.0\nDO_BUILD\n".as_slice(), false),
-        (b"PORTNAME=x\nPORTVERSION=1.0\nDO_BUILD =a\n".as_slice(), false),
-        (b"PORTNAME=x\nPORTVERSION=1.0\nDO_BUILD= a\n".as_slice(), false),
-        (b"PORTNAME=x\nPORTVERSION=1.0\nDO_BUILD=a \n".as_slice(), false),
-        (b"PORTNAME=x\nPORTVERSION=1.0\nDO_BUILD= \n".as_slice(), false),
-        (b"PORTNAME=x\nPORTVERSION=1.0\nportname=x\n".as_slice(), false),
-        (b"PORTNAME=x\nPORTVERSION=1.0\nPORTNAME=x\n".as_slice(), false),
-        (b"PORTNAME=x\nPORTVERSION=1.0\nDO_STAGE=\nDO_STAGE=\n".as_slice(), false),
+        (
+            b"PORTNAME=x\nPORTVERSION=1.0\nDO_BUILD =a\n".as_slice(),
+            false,
+        ),
+        (
+            b"PORTNAME=x\nPORTVERSION=1.0\nDO_BUILD= a\n".as_slice(),
+            false,
+        ),
+        (
+            b"PORTNAME=x\nPORTVERSION=1.0\nDO_BUILD=a \n".as_slice(),
+            false,
+        ),
+        (
+            b"PORTNAME=x\nPORTVERSION=1.0\nDO_BUILD= \n".as_slice(),
+            false,
+        ),
+        (
+            b"PORTNAME=x\nPORTVERSION=1.0\nportname=x\n".as_slice(),
+            false,
+        ),
+        (
+            b"PORTNAME=x\nPORTVERSION=1.0\nPORTNAME=x\n".as_slice(),
+            false,
+        ),
+        (
+            b"PORTNAME=x\nPORTVERSION=1.0\nDO_STAGE=\nDO_STAGE=\n".as_slice(),
+            false,
+        ),
         (b"PORTNAME=\nPORTVERSION=1.0\n".as_slice(), false),
         (b"PORTNAME=-x\nPORTVERSION=1.0\n".as_slice(), false),
         (b"PORTNAME=x.y\nPORTVERSION=1.0\n".as_slice(), false),
@@ -66,11 +102,36 @@ fn lengths(rt: HostRuntime) -> Result<(), Fail> {
     let alloc = rt.alloc();
     let named = b"PORTNAME=x\nPORTVERSION=1.0\n".as_slice();
     for (settings, name, count, wanted) in [
-        (b"PORTVERSION=1.0\n".as_slice(), b"PORTNAME".as_slice(), 1, true),
-        (b"PORTVERSION=1.0\n".as_slice(), b"PORTNAME".as_slice(), 64, true),
-        (b"PORTVERSION=1.0\n".as_slice(), b"PORTNAME".as_slice(), 65, false),
-        (b"PORTNAME=x\n".as_slice(), b"PORTVERSION".as_slice(), 64, true),
-        (b"PORTNAME=x\n".as_slice(), b"PORTVERSION".as_slice(), 65, false),
+        (
+            b"PORTVERSION=1.0\n".as_slice(),
+            b"PORTNAME".as_slice(),
+            1,
+            true,
+        ),
+        (
+            b"PORTVERSION=1.0\n".as_slice(),
+            b"PORTNAME".as_slice(),
+            64,
+            true,
+        ),
+        (
+            b"PORTVERSION=1.0\n".as_slice(),
+            b"PORTNAME".as_slice(),
+            65,
+            false,
+        ),
+        (
+            b"PORTNAME=x\n".as_slice(),
+            b"PORTVERSION".as_slice(),
+            64,
+            true,
+        ),
+        (
+            b"PORTNAME=x\n".as_slice(),
+            b"PORTVERSION".as_slice(),
+            65,
+            false,
+        ),
         (named, b"DO_BUILD".as_slice(), 8183, true),
         (named, b"DO_BUILD".as_slice(), 8184, false),
     ] {

@@ -24,7 +24,8 @@ fn example(alloc: Global) -> Result<Package, NoMemory> {
 fn record(rt: HostRuntime) -> Result<(), Fail> {
     let alloc = rt.alloc();
     let bytes = write(alloc, &example(alloc)?)?;
-    let unsigned = b"poudriere-package 1\nname x-1.0\norigin a/x\nflavor -\noptions 0\ndepends 0\nfiles 1\nfile 3 hello\nhi\n\n";
+    let unsigned =
+        b"poudriere-package 1\nname x-1.0\norigin a/x\nflavor -\noptions 0\ndepends 0\nfiles 1\nfile 3 hello\nhi\n\n";
     let digest = b"sha256 bd720c5d8b71dda2c30333708da9355f1f98f50f7c2f956175c239a33b2f8c6d\n";
     assert_eq!(rt; unsigned.len(), 96);
     assert_eq!(rt; bytes.len(), 168);
