@@ -1,10 +1,10 @@
 -- Paths in order of which none is a folder of another: what the first of them have to do with the next, and the same below a folder.
-use Rattle.std.proofs.Common.{◌≡◌, ℕ, ◌+◌, Bool, true, false, List, [], ◌∷◌, ◌++◌, ap, subst, sym, ◌∙◌, refl, arith, length, drop, length-append, append_assoc, nat_eq}
+use Rattle.std.proofs.Common.{◌≡◌, ℕ, ◌+◌, Bool, true, List, [], ◌∷◌, ◌++◌, ap, sym, ◌∙◌, refl, arith, length, drop, append_assoc, nat_eq}
 use Rattle.std.specs.Prelude.{not, ◌&&◌, ◌||◌, map, bytes_eq}
-use Rattle.std.specs.Cmp.Lexicographic.{slice_cmp, nat_list_cmp_total, texts_ties}
+use Rattle.std.specs.Cmp.Lexicographic.{nat_list_cmp_total, texts_ties}
 use Rattle.std.specs.Cmp.{nat_cmp_total, tied_itself}
 use Rattle.std.specs.Ordering.{nat_cmp, is_eq, ordering_then, ordering_reverse}
-use Rattle.std.specs.declared.cmp.Ordering.TheVariants.{Less, Equal, Greater}
+use Rattle.std.specs.declared.cmp.Ordering.TheVariants.{Less, Equal}
 use Rattle.std.specs.List.{list_all, AllByRecursion, starts_with}
 use Rattle.std.specs.List.Sorted.{IsStrictlySortedBy}
 use Rattle.std.proofs.lemmas.List.Folds.{list_all-append}
@@ -79,8 +79,8 @@ collides_none_before front x back h =
     list_all_weaker (λ y. (not (bytes_eq x y) && not (is_below y x)) && not (is_below x y)) (λ y. not (collides x y)) front
     (λ y k. no_collision (bytes_eq x y) (is_below y x) (is_below x y) k)
     (list_all_both (λ y. not (bytes_eq x y) && not (is_below y x)) (λ y. not (is_below x y)) front
-      (list_all_both (λ y. not (bytes_eq x y)) (λ y. not (is_below y x)) front (differs_before front x back h.order) (above_none_before front x back h.apart))
-      (below_none_before front x back h.apart))
+    (list_all_both (λ y. not (bytes_eq x y)) (λ y. not (is_below y x)) front (differs_before front x back h.order) (above_none_before front x back h.apart))
+    (below_none_before front x back h.apart))
 
 -- ---- one path left out
 
@@ -97,8 +97,8 @@ pub left_out : (front : List (List ℕ)) (x : List ℕ) (back : List (List ℕ))
 left_out front x back h = record {
   order = order-left_out front x back h.order;
   apart = list_all_weaker (λ f. list_all (λ y. not (is_below f y)) (front ++ x ∷ back)) (λ f. list_all (λ y. not (is_below f y)) (front ++ back)) (front ++ back)
-    (λ f k. list_all-left_out (λ y. not (is_below f y)) front x back k)
-    (list_all-left_out (λ f. list_all (λ y. not (is_below f y)) (front ++ x ∷ back)) front x back h.apart)
+      (λ f k. list_all-left_out (λ y. not (is_below f y)) front x back k)
+      (list_all-left_out (λ f. list_all (λ y. not (is_below f y)) (front ++ x ∷ back)) front x back h.apart);
 }
 
 -- ---- paths below one folder

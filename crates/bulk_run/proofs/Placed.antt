@@ -15,7 +15,7 @@ use Rattle.bulk_base.proofs.MapView.{order}
 use Rattle.outside.specs.Contents.{Contents, IsFree}
 use Rattle.bulk_model.specs.Bake.{placed}
 use Rattle.bulk_model.specs.Facts.{paths_of}
-use Rattle.bulk_run.proofs.PathLists.{IsPathList, parts_of_all, list_all_weaker, collides_none_before, collides-joined_both}
+use Rattle.bulk_run.proofs.PathLists.{IsPathList, parts_of_all, collides_none_before, collides-joined_both}
 
 both : (a b : Bool) → a ≡ true → b ≡ true → (a && b) ≡ true
 both a b p q = grind arith
@@ -81,7 +81,7 @@ placed_next w files i d l h =
     ap (λ fs. from_entries (placed w fs)) (take_more files i d l)
     ∙ ap from_entries (map-append (λ f. (joined w f.path, f.bytes)) (take i files) (get_or files i d ∷ []))
     ∙ from_entries_push nat_list_cmp_total (slice_cmp-IsAntisymmetric nat_cmp-IsAntisymmetric) (placed w (take i files)) (joined w (get_or files i d).path) (get_or files i d).bytes
-      (find-free (joined w (get_or files i d).path) (placed w (take i files)) (none_before w files i d l h))
+    (find-free (joined w (get_or files i d).path) (placed w (take i files)) (none_before w files i d l h))
 
 short_at : (most : ℕ) (files : List FileItem) (i : ℕ) (d : FileItem) → i < length files → list_all (λ path. nat_le (length path) most) (paths_of files) ≡ true → length (get_or files i d).path ≤ most
 short_at most files i d l h =

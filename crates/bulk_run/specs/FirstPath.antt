@@ -62,10 +62,12 @@ files_folder word = joined (port_folder word) (codes "files")
 abbrev pub most_file_bytes : ℕ
 most_file_bytes = 4194304
 
+abbrev pub is_large : Contents → List ℕ → Bool
+is_large content path = nat_lt most_file_bytes (length (unwrap_or (get content path) []))
+
 -- the port's first file that is too large
 abbrev pub large_file : Contents → List ℕ → Option (List ℕ)
-large_file content word =
-    find (λ path. nat_lt most_file_bytes (length (unwrap_or (get content path) []))) (files_below (files_folder word) content)
+large_file content word = find (is_large content) (files_below (files_folder word) content)
 
 -- a command of the words of a value, or none where it has no word
 abbrev pub commands_of : List ℕ → List (List (List ℕ))

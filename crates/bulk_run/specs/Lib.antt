@@ -5,3 +5,4 @@ pub mod AnswerLine
 pub mod Causes
 pub mod Decided
 pub mod RoomBuild
+pub mod PortTree

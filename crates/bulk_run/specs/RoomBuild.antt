@@ -15,14 +15,10 @@ abbrev pub outcome_after : JobView → Option Stop → Contents → Outcome
 outcome_after job None folder = packed job (staged folder)
 outcome_after job (Some stop) folder = Failed stop.phase stop.code
 
--- one byte more than a package may weigh, so that a file with more bytes than are taken is too heavy
-abbrev pub most_taken : ℕ
-most_taken = 524289
+-- a file with so many of its first bytes
+abbrev pub cut_file : ℕ → FileItem → FileItem
+cut_file most file = record { path = file.path; bytes = take most file.bytes }
 
--- a file with its first bytes alone
-abbrev pub cut_file : FileItem → FileItem
-cut_file file = record { path = file.path; bytes = take most_taken file.bytes }
-
--- the first bytes of a file below a folder, under the path that it has there
-abbrev pub taken_at : List ℕ → Contents → List ℕ → Option FileItem
-taken_at folder content path = option_map cut_file (file_at folder content path)
+-- so many first bytes of a file below a folder, under the path that it has there
+abbrev pub taken_at : ℕ → List ℕ → Contents → List ℕ → Option FileItem
+taken_at most folder content path = option_map (cut_file most) (file_at folder content path)

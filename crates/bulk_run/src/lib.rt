@@ -5,6 +5,7 @@ mod answer;
 mod answer_line;
 mod first_port;
 mod port_place;
+mod port_tree;
 mod furnishing;
 mod packing;
 mod phases;

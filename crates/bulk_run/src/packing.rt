@@ -8,8 +8,8 @@ use bulk_base::{Files, NoMemory, Sequence, Switch, Switches, Text};
 use bulk_model::{Depend, Depends, Job, Outcome, Package, Phase, Shared, weight};
 use std::alloc::Global;
 
-// The most that a package may weigh.
-const MOST_WEIGHT: u64 = 524288;
+/// The most that a package may weigh.
+pub(crate) const MOST_WEIGHT: u64 = 524288;
 
 fn copy_flavor(alloc: Global, flavor: &Option<Text>) -> Result<Option<Text>, NoMemory>
     ensures { IfOk result (λ copied. copied ≡ flavor.now) }

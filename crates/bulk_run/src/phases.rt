@@ -34,30 +34,49 @@ fn run_commands<R: Room>(alloc: Global, room: &mut R, commands: &[Command]) -> R
 }
 
 /// Runs the phases of a build one after another, up to the first that fails.
-pub(crate) fn run_phases<R: Room>(alloc: Global, room: &mut R, job: &Job) -> Result<Option<Stop>, Outer>
+pub(crate) fn run_phases<R: Room>(
+    alloc: Global,
+    room: &mut R,
+    job: &Job,
+) -> Result<Option<Stop>, Outer>
     ensures told { IsTrue R.Ways.tells → IfOk result (λ stop. bake.run_phases R.Ways.runs job.now (phases_of job.now.steps) (R.folder room.old) ≡ outcome_after job.now stop (R.folder room.new)) }
     ensures begun { R.begun room.new ≡ R.begun room.old }
     ensures cause { HasCause (R.faults room.old) (R.faults room.new) result }
 {
     let code = run_commands(alloc, room, job.steps.extract.as_slice())?;
     if code != 0 {
-        return Ok(Some(Stop { phase: Phase::Extract, code }));
+        return Ok(Some(Stop {
+            phase: Phase::Extract,
+            code,
+        }));
     }
     let code = run_commands(alloc, room, job.steps.patch.as_slice())?;
     if code != 0 {
-        return Ok(Some(Stop { phase: Phase::Patch, code }));
+        return Ok(Some(Stop {
+            phase: Phase::Patch,
+            code,
+        }));
     }
     let code = run_commands(alloc, room, job.steps.configure.as_slice())?;
     if code != 0 {
-        return Ok(Some(Stop { phase: Phase::Configure, code }));
+        return Ok(Some(Stop {
+            phase: Phase::Configure,
+            code,
+        }));
     }
     let code = run_commands(alloc, room, job.steps.build.as_slice())?;
     if code != 0 {
-        return Ok(Some(Stop { phase: Phase::Build, code }));
+        return Ok(Some(Stop {
+            phase: Phase::Build,
+            code,
+        }));
     }
     let code = run_commands(alloc, room, job.steps.stage.as_slice())?;
     if code != 0 {
-        return Ok(Some(Stop { phase: Phase::Stage, code }));
+        return Ok(Some(Stop {
+            phase: Phase::Stage,
+            code,
+        }));
     }
     Ok(None)
 }

@@ -6,7 +6,7 @@ ghost use Rattle.bulk_model.specs.Bake.{bake};
 ghost use Rattle.bulk_model.specs.Baked.{IsOutcomeOf};
 
 use crate::furnishing::furnish;
-use crate::packing::pack;
+use crate::packing::{MOST_WEIGHT, pack};
 use crate::phases::run_phases;
 use crate::staging::staged_files;
 use bulk_model::{Job, Outcome};
@@ -31,6 +31,7 @@ pub(crate) fn build<R: Room>(alloc: Global, room: &mut R, job: &Job) -> Result<O
             code: stop.code,
         });
     }
-    let files = staged_files(alloc, room)?;
+    // Of a file with more bytes than these the package is too heavy.
+    let files = staged_files(alloc, room, MOST_WEIGHT + 1)?;
     Ok(pack(alloc, job, files)?)
 }

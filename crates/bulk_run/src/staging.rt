@@ -11,9 +11,6 @@ use bulk_base::{FileItem, Files, NoMemory, Path, Sequence};
 use outside::{Outer, Room};
 use std::alloc::Global;
 
-// One byte more than a package may weigh, so that a file with more bytes than are taken is too heavy.
-const MOST_TAKEN: u64 = 524289;
-
 // What follows `stage/` in a path.
 fn path_in_stage(alloc: Global, stage: &Path, path: &Path) -> Result<Path, NoMemory>
     requires stage { stage.now ≡ codes "stage" }
@@ -27,17 +24,23 @@ fn path_in_stage(alloc: Global, stage: &Path, path: &Path) -> Result<Path, NoMem
 }
 
 // The first bytes of a staged file, if it is still there.
-fn take_file<R: Room>(alloc: Global, room: &mut R, stage: &Path, path: &Path) -> Result<Option<FileItem>, Outer>
+fn take_file<R: Room>(
+    alloc: Global,
+    room: &mut R,
+    stage: &Path,
+    path: &Path,
+    most: u64,
+) -> Result<Option<FileItem>, Outer>
     requires stage { stage.now ≡ codes "stage" }
     requires below { IsTrue (is_below (codes "stage") path.now) }
-    ensures told { IsTrue R.Ways.tells → IfOk result (λ found. found ≡ taken_at (codes "stage") (R.folder room.old) path.now) }
+    ensures told { IsTrue R.Ways.tells → IfOk result (λ found. found ≡ taken_at most (codes "stage") (R.folder room.old) path.now) }
     ensures path { IfOk result (λ found. IfSome found (λ file. file.path ≡ drop 6 path.now)) }
     ensures short { IfOk result (λ found. IfSome found (λ file. length file.path ≤ 1018)) }
     ensures same { IsTrue R.Ways.tells → OnOk result (R.folder room.new ≡ R.folder room.old) }
     ensures begun { R.begun room.new ≡ R.begun room.old }
     ensures cause { HasCause (R.faults room.old) (R.faults room.new) result }
 {
-    match room.take(alloc, path, MOST_TAKEN)? {
+    match room.take(alloc, path, most)? {
         Some(bytes) => Ok(Some(FileItem {
             path: path_in_stage(alloc, stage, path)?,
             bytes: Sequence::from_vec(bytes),
@@ -47,7 +50,7 @@ fn take_file<R: Room>(alloc: Global, room: &mut R, stage: &Path, path: &Path) ->
 }
 
 // Puts a file at the end of a list, if there is one.
-fn push_found(files: &mut Files, found: Option<FileItem>) -> Result<(), NoMemory>
+pub(crate) fn push_found(files: &mut Files, found: Option<FileItem>) -> Result<(), NoMemory>
     ensures { OnOk result (files.new ≡ files.old ++ option_to_list found) }
 {
     if let Some(file) = found {
@@ -56,9 +59,9 @@ fn push_found(files: &mut Files, found: Option<FileItem>) -> Result<(), NoMemory
     Ok(())
 }
 
-/// The files below `stage/`, each with no more bytes than show that it is too heavy.
-pub(crate) fn staged_files<R: Room>(alloc: Global, room: &mut R) -> Result<Files, Outer>
-    ensures told { IsTrue R.Ways.tells → IfOk result (λ files. files ≡ map cut_file (staged (R.folder room.old))) }
+/// The files below `stage/`, of each as many first bytes as are asked for.
+pub(crate) fn staged_files<R: Room>(alloc: Global, room: &mut R, most: u64) -> Result<Files, Outer>
+    ensures told { IsTrue R.Ways.tells → IfOk result (λ files. files ≡ map (cut_file most) (staged (R.folder room.old))) }
     ensures form { IfOk result (IsFileList 1018) }
     ensures begun { R.begun room.new ≡ R.begun room.old }
     ensures cause { HasCause (R.faults room.old) (R.faults room.new) result }
@@ -67,7 +70,7 @@ pub(crate) fn staged_files<R: Room>(alloc: Global, room: &mut R) -> Result<Files
     let paths = room.names(alloc, &stage)?;
     let mut files = Sequence::new(alloc);
     for path in paths.as_slice() {
-        let found = take_file(alloc, room, &stage, path)?;
+        let found = take_file(alloc, room, &stage, path, most)?;
         push_found(&mut files, found)?;
     }
     Ok(files)

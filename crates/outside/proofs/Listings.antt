@@ -143,3 +143,8 @@ none_of_length (x ∷ xs) e = absurd (omega arith)
 pub has_no_folder-empty : has_no_folder (keys {X = List ℕ} {R = order} empty) ≡ true
 has_no_folder-empty =
     subst (λ es. has_no_folder (map (λ e. e.0) es) ≡ true) (sym (none_of_length (entries {X = List ℕ} {R = order} empty) (sym (len-entries empty) ∙ len-empty order (List ℕ)))) refl
+
+-- each path is free where there is no file
+pub is_free-empty : (path : List ℕ) → IsFree path empty
+is_free-empty path =
+    subst (λ es. list_all (λ other. not (collides path other)) (map (λ e. e.0) es) ≡ true) (sym (none_of_length (entries {X = List ℕ} {R = order} empty) (sym (len-entries empty) ∙ len-empty order (List ℕ)))) refl

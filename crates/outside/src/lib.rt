@@ -36,3 +36,6 @@ pub use sink::Sink;
 pub use store::Store;
 pub use tree::Tree;
 pub use ways::{Untold, Ways};
+
+#[cfg(test)]
+mod tests;

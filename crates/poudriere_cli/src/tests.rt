@@ -226,12 +226,12 @@ fn a_room_is_cleared_filled_and_run_in(rt: HostRuntime) -> Result<(), Fail> {
 #[test]
 fn a_sink_writes_or_fails(rt: HostRuntime) -> Result<(), Fail> {
     let alloc = rt.alloc();
-    let mut sink = OutSink::new(fs::create(&rt, "out")?);
+    let mut sink = OutSink::new(fs::create(&rt, "printed")?);
     for piece in ["one ", "", "two"] {
         sink.write(alloc, piece.as_bytes())?;
     }
-    assert_eq!(rt; fs::read_to_string(&rt, "out")?.as_str(), "one two");
-    let mut closed = OutSink::new(fs::open(&rt, "out")?);
+    assert_eq!(rt; fs::read_to_string(&rt, "printed")?.as_str(), "one two");
+    let mut closed = OutSink::new(fs::open(&rt, "printed")?);
     assert!(rt; closed.write(alloc, b"").is_ok(), "nothing to write");
     assert!(rt;
         matches!(closed.write(alloc, b"x"), Err(Outer::Fault)),

@@ -4,9 +4,9 @@ use crate::place::{pass_absent, place};
 use bulk_base::{NoMemory, Path, PathError};
 use outside::Outer;
 use std::alloc::Global;
+use std::fs;
 use std::fs::{DirEntry, Metadata};
 use std::rt::Files;
-use std::{fs, io};
 
 /// The most entries that a walk meets.
 const MOST_ENTRIES: u32 = 1_000_000;

@@ -8,5 +8,5 @@ abbrev pub invariant-loop-file : goal.invariant-loop-file
 invariant-loop-file g l = record {
   told : IsTrue g.R.Ways.Ways.tells → g.R.Room.folder l.room ≡ from_entries (placed (codes "work") (take l.file-index l.files));
   begun : g.R.Room.begun l.room ≡ g.R.Room.begun l.initial.room;
-  quiet : g.R.Room.faults l.room ≡ g.R.Room.faults l.initial.room
+  quiet : g.R.Room.faults l.room ≡ g.R.Room.faults l.initial.room;
 }
