@@ -11,3 +11,4 @@ pub mod Staged
 pub mod CutFiles
 pub mod PortName
 pub mod OneList
+pub mod ExamplePackage

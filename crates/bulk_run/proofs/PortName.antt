@@ -49,7 +49,7 @@ name-le64 name t = grind (arith, nat_tests)
 version-le64 : (version : List ℕ) → is_first_version version ≡ true → length version ≤ 64
 version-le64 version t = grind (arith, nat_tests)
 
-is_package_name : (name version : List ℕ) → IsFirstForm name version → IsPackageName (name ++ codes "-" ++ version)
+pub is_package_name : (name version : List ℕ) → IsFirstForm name version → IsPackageName (name ++ codes "-" ++ version)
 is_package_name name version form =
     let parts = both (is_first_name name) (is_first_version version) form in
     record {

@@ -12,6 +12,9 @@ use bulk_model::{Command, Commands};
 use std::alloc::{AllocError, Global};
 use std::marker::Model;
 
+#[cfg(test)]
+mod tests;
+
 /// A port's description in the first form. A value that is not set is empty.
 ///
 /// Contracts see the record of its fields. The name and the version have their forms.

@@ -9,6 +9,9 @@ use bulk_model::{DepKind, Depend, Package};
 use sha2::{Digest, Sha256};
 use std::alloc::Global;
 
+#[cfg(test)]
+mod tests;
+
 /// Appends a line: a heading, a text and a line feed.
 fn put_line(out: &mut Vec<u8>, heading: &[u8], text: &[u8]) -> Result<(), NoMemory>
     ensures { OnOk result (out.new.items ≡ out.old.items ++ line (heading.now ++ text.now)) }
@@ -131,8 +134,8 @@ fn unsigned(alloc: Global, built: &Package) -> Result<Vec<u8>, NoMemory>
 pub(crate) fn write(alloc: Global, built: &Package) -> Result<Vec<u8>, NoMemory>
     ensures { IfOk result (λ bytes. bytes.items ≡ spelling built.now) }
 {
-    let mut out = unsigned(alloc, built)?;
-    let digest = hex::encode(alloc, Sha256::digest(out.as_slice()))?;
-    put_line(&mut out, b"sha256 ", digest.as_str().as_bytes())?;
-    Ok(out)
+    let mut record = unsigned(alloc, built)?;
+    let digest = hex::encode(alloc, Sha256::digest(record.as_slice()))?;
+    put_line(&mut record, b"sha256 ", digest.as_str().as_bytes())?;
+    Ok(record)
 }
