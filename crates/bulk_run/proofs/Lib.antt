@@ -12,3 +12,6 @@ pub mod CutFiles
 pub mod PortName
 pub mod OneList
 pub mod ExamplePackage
+pub mod FoundPort
+pub mod FirstJob
+pub mod FileName

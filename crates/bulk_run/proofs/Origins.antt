@@ -4,14 +4,14 @@ use Rattle.std.specs.Prelude.{cond, ◌&&◌, not, Option, Some, None, unwrap_or
 use Rattle.std.specs.List.{slice_split, list_all, before_first, after_first, position_or_len, All}
 use Rattle.std.proofs.lemmas.List.{length-append, drop_all}
 use Rattle.std.proofs.lemmas.List.Splits.{slice_split_none, slice_split_first}
-use Rattle.std.proofs.lemmas.List.Sums.{split_at_first}
+use Rattle.std.proofs.lemmas.List.Sums.{split_at_first, passes_at_first}
 use Rattle.std.proofs.lemmas.Bool.Decides.{nat_tests}
-use Rattle.std.proofs.lemmas.Bool.{cases_lt, and_parts}
+use Rattle.std.proofs.lemmas.Bool.{cases_lt, and_parts, eqb-true}
 use mathlib.Core.Bool.{true≢false}
 use Rattle.std.specs.Prelude.{◌⊎◌}
 use Rattle.std.proofs.Common.{inl, inr}
 use Rattle.bulk_base.specs.Path.{is_slash, parts, is_part, is_path, joined}
-use Rattle.bulk_base.specs.Names.{is_port_name, is_port_byte, is_alphanumeric}
+use Rattle.bulk_base.specs.Names.{is_port_name, is_port_byte, is_alphanumeric, IsOrigin}
 use Rattle.bulk_run.specs.FirstPath.{is_origin_word}
 
 port_byte_no_slash : (b : ℕ) → is_port_byte b ≡ true → is_slash b ≡ false
@@ -51,6 +51,9 @@ has_slash word h = elim (cases_lt (position_or_len is_slash word) (length word))
     inl l ↦ l
   | inr g ↦ absurd (no_name (back_name (before_first is_slash word) (after_first is_slash word) h) (drop_all (position_or_len is_slash word + 1) word (omega arith))) ]
 
+slash_there : (word : List ℕ) → position_or_len is_slash word < length word → get_or word (position_or_len is_slash word) 0 ≡ 47
+slash_there word l = eqb-true (get_or word (position_or_len is_slash word) 0) 47 (passes_at_first is_slash word 0 l)
+
 two_parts : (front back : List ℕ) → is_port_name front ≡ true → is_port_name back ≡ true → list_all is_part (front ∷ parts back) ≡ true
 two_parts front back f b =
     let first : is_part front ≡ true = name_is_part front f in
@@ -73,3 +76,15 @@ origin_is_path word h =
 
 pub length-joined : (folder rest : List ℕ) → length (joined folder rest) ≡ length folder + (1 + length rest)
 length-joined folder rest = length-append folder (47 ∷ rest) ∙ omega arith
+
+-- an origin's two names
+pub origin_form : (word : List ℕ) → is_origin_word word ≡ true → IsOrigin word
+origin_form word h =
+    let l : position_or_len is_slash word < length word = has_slash word h in
+    record {
+      category = before_first is_slash word;
+      port = after_first is_slash word;
+      category_form = front_name (before_first is_slash word) (after_first is_slash word) h;
+      port_form = back_name (before_first is_slash word) (after_first is_slash word) h;
+      spelled = split_at_first is_slash word 0 l ∙ ap (λ b. before_first is_slash word ++ b ∷ after_first is_slash word) (slash_there word l)
+    }

@@ -6,3 +6,5 @@ pub mod Causes
 pub mod Decided
 pub mod RoomBuild
 pub mod PortTree
+pub mod Report
+pub mod PortRun

@@ -9,12 +9,11 @@ use Rattle.bulk_model.specs.Views.{JobView}
 use Rattle.std.specs.Option.{option_map}
 use Rattle.bulk_run.specs.PortFile.{PortFile}
 use Rattle.bulk_run.specs.FirstPath.{is_large, large_file, files_folder, job_of, refusal_by_port, tree_refusal, first_job}
-use Rattle.bulk_run.specs.declared.answer.Answer.TheVariants.{NotYet}
-use Rattle.bulk_run.specs.declared.answer.Answer.{Answer}
+use Rattle.bulk_run.specs.declared.answer.Answer.TheVariants.{NotYet, NoOrigin}
 use Rattle.bulk_run.specs.declared.port_tree.PortFiles.{PortFiles}
 use Rattle.bulk_run.specs.declared.port_tree.PortFiles.TheVariants.{Large, Whole}
 use Rattle.bulk_run.specs.declared.port_tree.Found.{Found}
-use Rattle.bulk_run.specs.declared.port_tree.Found.TheVariants.{Refused, Port}
+use Rattle.bulk_run.specs.declared.port_tree.Found.TheVariants.{NotYet as NotServed, NoOrigin as NoPort, Port}
 
 -- one file: nothing where it is too large, else the file, if it is there
 abbrev pub IsTaken : List ℕ → Contents → List ℕ → Option (Option FileItem) → Type 0
@@ -33,15 +32,18 @@ AreInForm (Whole files) = IsFileList 1019 files
 
 -- a port's refusal by its files, or its job
 abbrev pub IsFoundInFiles : Contents → List ℕ → PortFile → Found → Type 0
-IsFoundInFiles content word file (Refused answer) = option_map NotYet (large_file content word) ≡ Some answer
+IsFoundInFiles content word file (NotServed path) = option_map NotYet (large_file content word) ≡ Some (NotYet path)
+IsFoundInFiles content word file (NoPort name) = option_map NotYet (large_file content word) ≡ Some (NoOrigin name)
 IsFoundInFiles content word file (Port job) = (large_file content word ≡ None) × (job ≡ job_of word file (files_in (files_folder word) content))
 
 -- a port's refusal, or its job
 abbrev pub IsFoundByPort : Contents → List ℕ → Found → Type 0
-IsFoundByPort content word (Refused answer) = refusal_by_port content word ≡ Some answer
+IsFoundByPort content word (NotServed path) = refusal_by_port content word ≡ Some (NotYet path)
+IsFoundByPort content word (NoPort name) = refusal_by_port content word ≡ Some (NoOrigin name)
 IsFoundByPort content word (Port job) = (refusal_by_port content word ≡ None) × (first_job content word ≡ Some job)
 
 -- a word's refusal, or its job where nothing is refused
 abbrev pub IsFound : Contents → List ℕ → Found → Type 0
-IsFound content word (Refused answer) = tree_refusal content word ≡ Some answer
+IsFound content word (NotServed path) = tree_refusal content word ≡ Some (NotYet path)
+IsFound content word (NoPort name) = tree_refusal content word ≡ Some (NoOrigin name)
 IsFound content word (Port job) = (tree_refusal content word ≡ None) × (first_job content word ≡ Some job)

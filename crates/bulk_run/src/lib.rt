@@ -3,8 +3,11 @@
 
 mod answer;
 mod answer_line;
+mod decision;
 mod first_port;
 mod port_place;
+mod port_run;
+mod port_store;
 mod port_tree;
 mod furnishing;
 mod packing;

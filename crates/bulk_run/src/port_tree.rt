@@ -9,7 +9,6 @@ ghost use Rattle.bulk_run.specs.FirstPath.{is_origin_word as has_origin_form, fi
 ghost use Rattle.bulk_run.specs.PortFile.{read_port_file as read_port_form};
 ghost use Rattle.bulk_run.specs.PortTree.{IsTaken, AreTaken, AreInForm, IsFound, IsFoundByPort, IsFoundInFiles};
 
-use crate::answer::Answer;
 use crate::first_port::unserved;
 use crate::port_file::{PortFile, commands, package_name, read_port_file};
 use crate::port_place::{PortPlace, is_origin_word};
@@ -37,8 +36,10 @@ pub(crate) enum PortFiles {
 /// What the tree says of a word.
 #[derive(Drop)]
 pub(crate) enum Found {
-    /// The first refusal.
-    Refused(Answer),
+    /// The file that is not served yet.
+    NotYet(Text),
+    /// The word, which no port has as its origin.
+    NoOrigin(Text),
     /// The port's job.
     Port(Job),
 }
@@ -129,7 +130,7 @@ fn with_files<T: Tree>(alloc: Global, tree: &mut T, word: &Text, folder: &Path, 
     ensures cause { HasCause (T.faults tree.old) (T.faults tree.new) result }
 {
     match read_files(alloc, tree, folder)? {
-        PortFiles::Large(path) => Ok(Found::Refused(Answer::NotYet { path })),
+        PortFiles::Large(path) => Ok(Found::NotYet(path)),
         PortFiles::Whole(files) => Ok(Found::Port(port_job(alloc, word, file, files)?)),
     }
 }
@@ -152,14 +153,12 @@ fn look_up_port<T: Tree>(alloc: Global, tree: &mut T, word: &Text) -> Result<Fou
     ensures cause { HasCause (T.faults tree.old) (T.faults tree.new) result }
 {
     if !is_origin_word(word.bytes()) {
-        return Ok(Found::Refused(Answer::NoOrigin { word: word.copy(alloc)? }));
+        return Ok(Found::NoOrigin(word.copy(alloc)?));
     }
     let place = PortPlace::new(alloc, word)?;
     match read_vars(alloc, tree, &place.vars)? {
-        None => Ok(Found::Refused(Answer::NoOrigin { word: word.copy(alloc)? })),
-        Some(None) => Ok(Found::Refused(Answer::NotYet {
-            path: place.vars.text().copy(alloc)?,
-        })),
+        None => Ok(Found::NoOrigin(word.copy(alloc)?)),
+        Some(None) => Ok(Found::NotYet(place.vars.text().copy(alloc)?)),
         Some(Some(file)) => with_files(alloc, tree, word, &place.files, &file),
     }
 }
@@ -171,7 +170,7 @@ pub(crate) fn look_up<T: Tree>(alloc: Global, tree: &mut T, word: &Text) -> Resu
     ensures cause { HasCause (T.faults tree.old) (T.faults tree.new) result }
 {
     match unserved(alloc, tree)? {
-        Some(path) => Ok(Found::Refused(Answer::NotYet { path })),
+        Some(path) => Ok(Found::NotYet(path)),
         None => look_up_port(alloc, tree, word),
     }
 }
