@@ -17,7 +17,9 @@ fn with_setting(
     let mut bytes = Vec::from_slice(alloc, settings)?;
     bytes.extend_from_slice(name)?;
     bytes.push(b'=')?;
-    bytes.resize(bytes.len() + count, byte)?;
+    for _ in 0..count {
+        bytes.push(byte)?;
+    }
     bytes.push(b'\n')?;
     Ok(bytes)
 }
