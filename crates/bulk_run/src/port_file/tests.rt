@@ -17,7 +17,9 @@ fn with_setting(
     let mut bytes = Vec::from_slice(alloc, settings)?;
     bytes.extend_from_slice(name)?;
     bytes.push(b'=')?;
-    bytes.resize(bytes.len() + count, byte)?;
+    for _ in 0..count {
+        bytes.push(byte)?;
+    }
     bytes.push(b'\n')?;
     Ok(bytes)
 }
@@ -161,22 +163,28 @@ fn bytes(rt: HostRuntime) -> Result<(), Fail> {
 }
 
 #[test]
-fn fields(rt: HostRuntime) -> Result<(), Fail> {
+fn values(rt: HostRuntime) -> Result<(), Fail> {
     let alloc = rt.alloc();
     let bytes = b"DO_STAGE=cp  a b=c\nPORTVERSION=1.0\nPORTNAME=x\n";
-    let Some(file) = read_port_file(alloc, bytes)? else {
+    if let Some(file) = read_port_file(alloc, bytes)? {
+        assert!(rt; file.build.is(b"") && file.stage.is(b"cp  a b=c"));
+        assert!(rt; package_name(alloc, &file)?.is(b"x-1.0"));
+    } else {
         assert!(rt; false, "the form is not read");
-        return Ok(());
-    };
-    assert!(rt; file.name.is(b"x"));
-    assert!(rt; file.version.is(b"1.0"));
-    assert!(rt; file.build.is(b""));
-    assert!(rt; file.stage.is(b"cp  a b=c"));
-    assert!(rt; package_name(alloc, &file)?.is(b"x-1.0"));
-    assert_eq!(rt; commands(alloc, &file.build)?.len(), 0);
-    for command in commands(alloc, &file.stage)?.as_slice() {
-        assert_eq!(rt; command.words().len(), 3);
     }
-    assert_eq!(rt; commands(alloc, &file.stage)?.len(), 1);
+    Ok(())
+}
+
+#[test]
+fn words_of_commands(rt: HostRuntime) -> Result<(), Fail> {
+    let alloc = rt.alloc();
+    for (value, count) in [
+        (b"".as_slice(), 0),
+        (b"true".as_slice(), 1),
+        (b"cp  a b=c".as_slice(), 1),
+    ] {
+        let text = Text::from_bytes(alloc, value)?;
+        assert_eq!(rt; commands(alloc, &text)?.len(), count);
+    }
     Ok(())
 }
