@@ -32,6 +32,11 @@ fn fill(rt: &HostRuntime, files: &[(&str, &str)]) -> io::Result<()> {
     Ok(())
 }
 
+/// Takes away what an earlier run of a test may have left.
+fn clean(rt: &HostRuntime, folder: &str) {
+    let _ = fs::remove_dir_all(rt, folder);
+}
+
 fn link(rt: &HostRuntime, links: &[(&str, &str)]) -> io::Result<()> {
     for (place, to) in links {
         symlink(rt, *to, *place)?;
@@ -91,6 +96,7 @@ fn reads<T: Tree>(
 
 #[test]
 fn a_tree_is_listed_and_read(rt: HostRuntime) -> Result<(), Fail> {
+    clean(&rt, "t");
     let alloc = rt.alloc();
     fill(
         &rt,
@@ -124,6 +130,7 @@ fn a_tree_is_listed_and_read(rt: HostRuntime) -> Result<(), Fail> {
     ] {
         assert!(rt; reads(alloc, &mut tree, file, want)?, "{file}");
     }
+    clean(&rt, "t");
     Ok(())
 }
 
@@ -153,6 +160,7 @@ fn removes<S: Store>(alloc: Global, store: &mut S, names: &[&str]) -> Result<(),
 
 #[test]
 fn a_store_is_listed_read_and_changed(rt: HostRuntime) -> Result<(), Fail> {
+    clean(&rt, "p");
     let alloc = rt.alloc();
     let mut store = DirStore::new(&rt, String::from_str(alloc, "p")?);
     assert!(rt;
@@ -184,6 +192,7 @@ fn a_store_is_listed_read_and_changed(rt: HostRuntime) -> Result<(), Fail> {
     );
     let mut file = DirStore::new(&rt, String::from_str(alloc, "p/x+a.pkg")?);
     assert!(rt; are_names(alloc, file.names(alloc), FAULT)?, "a plain file");
+    clean(&rt, "p");
     Ok(())
 }
 
@@ -199,6 +208,7 @@ fn stages<R: Room>(alloc: Global, room: &mut R, want: &str) -> Result<bool, Fail
 
 #[test]
 fn a_room_is_cleared_filled_and_run_in(rt: HostRuntime) -> Result<(), Fail> {
+    clean(&rt, "rooms");
     let alloc = rt.alloc();
     let mut room = DirRoom::new(&rt, alloc, String::from_str(alloc, "./rooms/00")?);
     let name = text(alloc, "a/x")?;
@@ -220,6 +230,7 @@ fn a_room_is_cleared_filled_and_run_in(rt: HostRuntime) -> Result<(), Fail> {
     assert!(rt; stages(alloc, &mut room, FAULT)?, "a link to nothing");
     room.clear(alloc, &name)?;
     assert!(rt; stages(alloc, &mut room, "")?, "cleared again");
+    clean(&rt, "rooms");
     Ok(())
 }
 
@@ -237,5 +248,6 @@ fn a_sink_writes_or_fails(rt: HostRuntime) -> Result<(), Fail> {
         matches!(closed.write(alloc, b"x"), Err(Outer::Fault)),
         "not open for writing"
     );
+    fs::remove_file(&rt, "printed")?;
     Ok(())
 }

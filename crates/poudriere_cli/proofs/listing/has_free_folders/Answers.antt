@@ -1,4 +1,4 @@
-use Rattle.std.proofs.Common.{◌≡◌, ℕ, ◌<◌, get_or, take, arith, sym, Contains}
+use Rattle.std.proofs.Common.{arith}
 use Rattle.std.proofs.lemmas.Grind.{common_steps}
 use Rattle.poudriere_cli.proofs.Listings.{none_above, one_above}
 use Rattle.poudriere_cli.proofs.listing.has_free_folders.Goals as goal
