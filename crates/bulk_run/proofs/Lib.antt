@@ -15,3 +15,4 @@ pub mod ExamplePackage
 pub mod FoundPort
 pub mod FirstJob
 pub mod FileName
+pub mod Ending

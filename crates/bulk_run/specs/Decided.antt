@@ -1,7 +1,7 @@
 -- When an inner step answers a refusal.
-use Rattle.std.specs.Prelude.{◌≡◌, Bool, true, false, Option, Some, None, Result, Ok, Err}
+use Rattle.std.specs.Prelude.{◌≡◌, ◌==◌, Bool, true, false, Option, Some, None, Result, Ok, Err}
 use Rattle.bulk_run.specs.declared.answer.Answer.{Answer}
-use Rattle.bulk_run.specs.declared.answer.Answer.TheVariants.{Done, SinkFault}
+use Rattle.bulk_run.specs.declared.answer.Answer.TheVariants.{Done, Usage, Builders, NotYet, NoOrigin, TreeFault, StoreFault, RoomFault, SinkFault, NoMemory}
 use Rattle.bulk_run.specs.Causes.{is_refusal}
 
 -- a step gives its value only where nothing is refused, and a refusal only where that one is the first
@@ -9,11 +9,18 @@ abbrev pub Decides : {X : Type 0} → Option Answer → Result X Answer → Type
 Decides refused (Ok x) = refused ≡ None
 Decides refused (Err answer) = is_refusal answer ≡ true → refused ≡ Some answer
 
--- no step answers that all is done, and only writing blames the sink
+-- what an inner step may answer: not that all is done, not a fault of the sink, and of the rooms only the first
 abbrev pub is_inner : Answer → Bool
 is_inner Done = false
+is_inner Usage = true
+is_inner (Builders asked had) = true
+is_inner (NotYet path) = true
+is_inner (NoOrigin word) = true
+is_inner TreeFault = true
+is_inner StoreFault = true
+is_inner (RoomFault builder) = builder == 0
 is_inner SinkFault = false
-is_inner _ = true
+is_inner NoMemory = true
 
 abbrev pub IsInner : {X : Type 0} → Result X Answer → Type 0
 IsInner (Ok x) = Unit {0}

@@ -8,3 +8,4 @@ pub mod RoomBuild
 pub mod PortTree
 pub mod Report
 pub mod PortRun
+pub mod Ending

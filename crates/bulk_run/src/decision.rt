@@ -1,5 +1,5 @@
 // What a command asks for: the first refusal, or the job of the wanted port.
-ghost use Rattle.std.specs.Prelude.{◌≡◌, Some, Err, false, IsTrue, IsNone, IfOk};
+ghost use Rattle.std.specs.Prelude.{◌≡◌, Some, Err, false, is_some, IsTrue, IsNone, IfOk};
 ghost use Rattle.std.specs.Option.{option_copied};
 ghost use Rattle.outside.specs.Changes.{IsUnchanged};
 ghost use Rattle.bulk_run.specs.FirstPath.{wanted_word as word_of, refusal, tree_refusal, store_refusal, first_job, wanted_job};
@@ -28,6 +28,13 @@ fn wanted_word(words: &[Text]) -> Option<&Text>
         }
         _ => None,
     }
+}
+
+/// Whether the words are a command.
+pub(crate) fn is_command(words: &[Text]) -> bool
+    ensures { result ≡ is_some (word_of words.now) }
+{
+    wanted_word(words).is_some()
 }
 
 // The tree's part: the first refusal that it gives cause for, or the job.

@@ -4,6 +4,7 @@
 mod answer;
 mod answer_line;
 mod decision;
+mod refusal;
 mod first_port;
 mod port_place;
 mod port_run;
@@ -14,8 +15,10 @@ mod packing;
 mod phases;
 mod room_build;
 mod staging;
+mod top;
 mod port_file;
 mod port_lists;
 mod record_writer;
 
+pub use top::{bulk_alone, poudriere};
 pub use answer::{Answer, Closed, Finished};

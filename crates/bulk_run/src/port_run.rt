@@ -1,6 +1,6 @@
 // One port built, its package stored, and the text that says so.
-ghost use Rattle.std.specs.Prelude.{◌≡◌, [], ◌∷◌, ◌++◌, Err, false, IsTrue, IfOk, OnOk, OnErr};
-ghost use Rattle.outside.specs.Outcomes.{GrewByAtMost};
+ghost use Rattle.std.specs.Prelude.{◌≡◌, ◌≤◌, [], false, IsTrue, IfOk};
+ghost use Rattle.bulk_run.specs.Ending.{GrewByOne};
 ghost use Rattle.bulk_model.specs.Bake.{bake};
 ghost use Rattle.bulk_run.specs.Causes.{IsCaused, err_is, blames_tree, blames_store, blames_room};
 ghost use Rattle.bulk_run.specs.Decided.{IsInner};
@@ -30,8 +30,7 @@ fn build_port<R: Room>(alloc: Global, room: &mut R, job: &Job) -> Result<Outcome
     ensures tree { err_is blames_tree result ≡ false }
     ensures store { err_is blames_store result ≡ false }
     ensures inner { IsInner result }
-    ensures begun { OnOk result (R.begun room.new ≡ R.begun room.old ++ job.now.name ∷ []) }
-    ensures begun_err { OnErr result (GrewByAtMost job.now.name (R.begun room.old) (R.begun room.new)) }
+    ensures begun { GrewByOne (R.begun room.old) (R.begun room.new) }
 {
     match build(alloc, room, job) {
         Ok(outcome) => Ok(outcome),
@@ -61,7 +60,11 @@ fn store_outcome<S: Store>(alloc: Global, store: &mut S, outcome: &Outcome) -> R
 // The lists of a run that built one port.
 fn port_report(alloc: Global, job: &Job, outcome: &Outcome) -> Result<Report, Answer>
     ensures told { IfOk result (Reports job.now outcome.now) }
-    ensures memory { OnErr result (result ≡ Err Answer.NoMemory) }
+    ensures tree { err_is blames_tree result ≡ false }
+    ensures store { err_is blames_store result ≡ false }
+    ensures room { err_is blames_room result ≡ false }
+    ensures inner { IsInner result }
+    ensures status { IfOk result (λ r. r.status ≤ 1) }
 {
     match port_lists(alloc, job, outcome) {
         Ok(text) => Ok(Report {
@@ -69,5 +72,23 @@ fn port_report(alloc: Global, job: &Job, outcome: &Outcome) -> Result<Report, An
             text,
         }),
         Err(_) => Err(Answer::NoMemory),
+    }
+}
+
+/// Builds one port in the room, stores its package and says so.
+pub(crate) fn run_port<S: Store, R: Room>(alloc: Global, store: &mut S, room: &mut R, job: &Job) -> Result<Report, Answer>
+    ensures tree { err_is blames_tree result ≡ false }
+    ensures store { IsCaused (S.faults store.old) (S.faults store.new) (err_is blames_store result) }
+    ensures room { IsCaused (R.faults room.old) (R.faults room.new) (err_is blames_room result) }
+    ensures inner { IsInner result }
+    ensures begun { GrewByOne (R.begun room.old) (R.begun room.new) }
+    ensures status { IfOk result (λ r. r.status ≤ 1) }
+{
+    match build_port(alloc, room, job) {
+        Err(answer) => Err(answer),
+        Ok(outcome) => match store_outcome(alloc, store, &outcome) {
+            Err(answer) => Err(answer),
+            Ok(()) => port_report(alloc, job, &outcome),
+        },
     }
 }

@@ -1,0 +1,71 @@
+-- How a run ends: what was begun, what was stored, and whom the answer blames.
+use Rattle.std.proofs.Common.{◌≡◌, ℕ, ◌≤◌, Bool, true, false, List, [], ◌∷◌, ◌++◌, ◌∙◌, ap, sym, subst, refl, inl, inr}
+use Rattle.std.specs.Prelude.{◌⊎◌, Result, Ok, Err}
+use Rattle.outside.specs.Changes.{Made, TookEffect, IsUnchanged, changed}
+use Rattle.outside.specs.Contents.{Contents}
+use Rattle.outside.specs.Faults.{Rose}
+use Rattle.outside.specs.Outcomes.{GrewByAtMost}
+use Rattle.outside.specs.declared.change.Change.{Change}
+use Rattle.outside.specs.declared.outer.Outer.{Outer}
+use Rattle.outside.specs.declared.outer.Outer.TheVariants.{Fault, NoMemory as Refused}
+use Rattle.bulk_run.specs.declared.answer.Answer.{Answer}
+use Rattle.bulk_run.specs.declared.answer.Answer.TheVariants.{Done, Usage, Builders, NotYet, NoOrigin, TreeFault, StoreFault, RoomFault, SinkFault, NoMemory}
+use Rattle.bulk_run.specs.Causes.{IsCaused, blames_tree, blames_store, blames_room}
+use Rattle.bulk_run.specs.Decided.{is_inner}
+use Rattle.bulk_run.specs.Ending.{GrewByOne, IsBlamed, IsStatusOf}
+use Rattle.bulk_run.specs.AnswerLine.{answer_status}
+use mathlib.Core.Bool.{true≢false}
+use Rattle.std.proofs.lemmas.Bool.{eqb-true}
+
+-- after a fault the change was made or nothing changed
+pub made_or_not : (change : Change) (before now : Contents) (told_before told_now : List Change) (X : Type 0) (outer : Outer) (after : Contents) → outer ≡ Fault
+    → Made change before now told_before told_now (let r : Result X Outer = Err outer in r) → changed change before ≡ after → (now ≡ after) ⊎ (now ≡ before)
+made_or_not change before now told_before told_now X Fault after e (inl made) h = inl (made.content ∙ h)
+made_or_not change before now told_before told_now X Fault after e (inr kept) h = inr kept.content
+made_or_not change before now told_before told_now X Refused after e kept h = inr kept.content
+
+pub one_begun : (name : List ℕ) (before now : List (List ℕ)) → now ≡ before ++ name ∷ [] → GrewByOne before now
+one_begun name before now e = inl (name, e)
+
+pub one_begun_at_most : (name : List ℕ) (before now : List (List ℕ)) → GrewByAtMost name before now → GrewByOne before now
+one_begun_at_most name before now (inl e) = inl (name, e)
+one_begun_at_most name before now (inr e) = inr e
+
+room_number : (b : ℕ) → is_inner (RoomFault b) ≡ true → b ≡ 0
+room_number b h = eqb-true b 0 h
+
+-- whom an answer of the inner steps blames
+pub blamed_inner : (answer : Answer) (tb tn sb sn rb rn kb kn : ℕ) → is_inner answer ≡ true → IsCaused tb tn (blames_tree answer) → IsCaused sb sn (blames_store answer) → IsCaused rb rn (blames_room answer)
+    → IsBlamed answer tb tn sb sn rb rn kb kn
+blamed_inner Done tb tn sb sn rb rn kb kn i t s r = absurd (true≢false (sym i))
+blamed_inner Usage tb tn sb sn rb rn kb kn i t s r = tt
+blamed_inner (Builders asked had) tb tn sb sn rb rn kb kn i t s r = tt
+blamed_inner (NotYet path) tb tn sb sn rb rn kb kn i t s r = tt
+blamed_inner (NoOrigin word) tb tn sb sn rb rn kb kn i t s r = tt
+blamed_inner TreeFault tb tn sb sn rb rn kb kn i t s r = t.rose refl
+blamed_inner StoreFault tb tn sb sn rb rn kb kn i t s r = s.rose refl
+blamed_inner (RoomFault b) tb tn sb sn rb rn kb kn i t s r = (room_number b i, r.rose refl)
+blamed_inner SinkFault tb tn sb sn rb rn kb kn i t s r = absurd (true≢false (sym i))
+blamed_inner NoMemory tb tn sb sn rb rn kb kn i t s r = tt
+
+-- the same for the answer that is given in the end: that one, or want of memory
+pub blamed_in_the_end : (answer final : Answer) (tb tn sb sn rb rn kb kn : ℕ) → (final ≡ answer) ⊎ (final ≡ NoMemory) → IsBlamed answer tb tn sb sn rb rn kb kn → IsBlamed final tb tn sb sn rb rn kb kn
+blamed_in_the_end answer final tb tn sb sn rb rn kb kn (inl e) h = subst (λ a. IsBlamed a tb tn sb sn rb rn kb kn) (sym e) h
+blamed_in_the_end answer final tb tn sb sn rb rn kb kn (inr e) h = subst (λ a. IsBlamed a tb tn sb sn rb rn kb kn) (sym e) tt
+
+status_of_inner : (answer : Answer) (status : ℕ) → is_inner answer ≡ true → status ≡ answer_status answer → IsStatusOf answer status
+status_of_inner Done status i h = absurd (true≢false (sym i))
+status_of_inner Usage status i h = h
+status_of_inner (Builders asked had) status i h = h
+status_of_inner (NotYet path) status i h = h
+status_of_inner (NoOrigin word) status i h = h
+status_of_inner TreeFault status i h = h
+status_of_inner StoreFault status i h = h
+status_of_inner (RoomFault b) status i h = h
+status_of_inner SinkFault status i h = h
+status_of_inner NoMemory status i h = h
+
+-- the status of an answer that is not Done
+pub status_in_the_end : (answer final : Answer) (status : ℕ) → is_inner answer ≡ true → (final ≡ answer) ⊎ (final ≡ NoMemory) → status ≡ answer_status final → IsStatusOf final status
+status_in_the_end answer final status i (inl e) h = subst (λ a. IsStatusOf a status) (sym e) (status_of_inner answer status i (h ∙ ap answer_status e))
+status_in_the_end answer final status i (inr e) h = subst (λ a. IsStatusOf a status) (sym e) (h ∙ ap answer_status e)

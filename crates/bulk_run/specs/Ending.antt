@@ -1,0 +1,45 @@
+-- What an answer says of the objects that were handed in.
+use Rattle.std.specs.Prelude.{◌≡◌, ℕ, ◌≤◌, ◌⊎◌, List, [], ◌∷◌, ◌++◌}
+use Rattle.outside.specs.Faults.{Rose}
+use Rattle.bulk_run.specs.declared.answer.Answer.{Answer}
+use Rattle.bulk_run.specs.declared.answer.Answer.TheVariants.{Done, Usage, Builders, NotYet, NoOrigin, TreeFault, StoreFault, RoomFault, SinkFault, NoMemory}
+
+-- one name was begun, or none
+abbrev pub GrewByOne : List (List ℕ) → List (List ℕ) → Type 0
+GrewByOne before now = ((name : List ℕ) × (now ≡ before ++ name ∷ [])) ⊎ (now ≡ before)
+
+-- a fault is answered only where the count of that very object rose, and Done only where no count moved; the counts
+-- of the tree, the store, the room and the sink stand before and after, in this order
+abbrev pub IsBlamed : Answer → ℕ → ℕ → ℕ → ℕ → ℕ → ℕ → ℕ → ℕ → Type 0
+IsBlamed Done tb tn sb sn rb rn kb kn = (tn ≡ tb) × (sn ≡ sb) × (rn ≡ rb) × (kn ≡ kb)
+IsBlamed Usage tb tn sb sn rb rn kb kn = Unit {0}
+IsBlamed (Builders asked had) tb tn sb sn rb rn kb kn = Unit {0}
+IsBlamed (NotYet path) tb tn sb sn rb rn kb kn = Unit {0}
+IsBlamed (NoOrigin word) tb tn sb sn rb rn kb kn = Unit {0}
+IsBlamed TreeFault tb tn sb sn rb rn kb kn = Rose tb tn
+IsBlamed StoreFault tb tn sb sn rb rn kb kn = Rose sb sn
+IsBlamed (RoomFault builder) tb tn sb sn rb rn kb kn = (builder ≡ 0) × Rose rb rn
+IsBlamed SinkFault tb tn sb sn rb rn kb kn = Rose kb kn
+IsBlamed NoMemory tb tn sb sn rb rn kb kn = Unit {0}
+
+-- the exit status that an answer has: 0 or 1 for Done
+abbrev pub IsStatusOf : Answer → ℕ → Type 0
+IsStatusOf Done status = status ≤ 1
+IsStatusOf Usage status = status ≡ 2
+IsStatusOf (Builders asked had) status = status ≡ 2
+IsStatusOf (NotYet path) status = status ≡ 2
+IsStatusOf (NoOrigin word) status = status ≡ 2
+IsStatusOf TreeFault status = status ≡ 3
+IsStatusOf StoreFault status = status ≡ 3
+IsStatusOf (RoomFault builder) status = status ≡ 3
+IsStatusOf SinkFault status = status ≡ 3
+IsStatusOf NoMemory status = status ≡ 4
+
+-- what is said of the first of some rooms
+abbrev pub faults_of_first : {R : Type 0} → (R → ℕ) → List R → ℕ
+faults_of_first faults [] = 0
+faults_of_first faults (room ∷ rooms) = faults room
+
+abbrev pub begun_in_first : {R : Type 0} → (R → List (List ℕ)) → List R → List (List ℕ)
+begun_in_first begun [] = []
+begun_in_first begun (room ∷ rooms) = begun room

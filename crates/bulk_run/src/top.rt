@@ -1,0 +1,104 @@
+// The top calls.
+ghost use Rattle.std.specs.Prelude.{◌≡◌, ◌≤◌, ◌<◌, ◌^◌, ℕ, drop, vec_len, IfOk};
+ghost use Rattle.bulk_run.specs.Ending.{GrewByOne, IsBlamed, IsStatusOf, faults_of_first, begun_in_first};
+ghost use Rattle.bulk_run.specs.Causes.{IsCaused, err_is, blames_tree, blames_store, blames_room};
+ghost use Rattle.bulk_run.specs.Decided.{IsInner};
+
+use crate::answer::{Answer, Closed, Finished};
+use crate::decision::{decide, is_command};
+use crate::refusal::refuse;
+use crate::port_run::{Report, run_port};
+use bulk_base::Text;
+use outside::{Gate, Outer, Room, Sink, Store, Tree};
+use std::alloc::Global;
+use std::sync::Wait;
+use std::thread::Threads;
+
+fn run<T: Tree, S: Store, R: Room>(alloc: Global, words: &[Text], tree: &mut T, store: &mut S, room: &mut R) -> Result<Report, Answer>
+    ensures tree { IsCaused (T.faults tree.old) (T.faults tree.new) (err_is blames_tree result) }
+    ensures store { IsCaused (S.faults store.old) (S.faults store.new) (err_is blames_store result) }
+    ensures room { IsCaused (R.faults room.old) (R.faults room.new) (err_is blames_room result) }
+    ensures inner { IsInner result }
+    ensures begun { GrewByOne (R.begun room.old) (R.begun room.new) }
+    ensures status { IfOk result (λ r. r.status ≤ 1) }
+{
+    match decide(alloc, words, tree, store) {
+        Err(answer) => Err(answer),
+        Ok(job) => run_port(alloc, store, room, &job),
+    }
+}
+
+/// Runs a command with one builder.
+pub fn bulk_alone<T: Tree, S: Store, R: Room, K: Sink>(
+    alloc: Global,
+    words: &[Text],
+    tree: &mut T,
+    store: &mut S,
+    room: &mut R,
+    out: &mut K,
+) -> Closed
+    ensures cause { IsBlamed result.answer (T.faults tree.old) (T.faults tree.new) (S.faults store.old) (S.faults store.new) (R.faults room.old) (R.faults room.new) (K.faults out.old) (K.faults out.new) }
+    ensures status { IsStatusOf result.answer result.status }
+    ensures begun { GrewByOne (R.begun room.old) (R.begun room.new) }
+{
+    match run(alloc, words, tree, store, room) {
+        Err(answer) => refuse(alloc, out, answer),
+        Ok(report) => match out.write(alloc, &report.text) {
+            Ok(()) => Closed {
+                status: report.status,
+                answer: Answer::Done,
+            },
+            Err(Outer::Fault) => refuse(alloc, out, Answer::SinkFault),
+            Err(Outer::NoMemory) => refuse(alloc, out, Answer::NoMemory),
+        },
+    }
+}
+
+// Runs a command that has no room.
+fn without_rooms<K: Sink>(alloc: Global, words: &[Text], out: &mut K) -> Closed
+    ensures cause { (tb tn sb sn : ℕ) → IsBlamed result.answer tb tn sb sn 0 0 (K.faults out.old) (K.faults out.new) }
+    ensures status { IsStatusOf result.answer result.status }
+{
+    if is_command(words) {
+        refuse(alloc, out, Answer::Builders { asked: 1, had: 0 })
+    } else {
+        refuse(alloc, out, Answer::Usage)
+    }
+}
+
+/// Runs a command over a tree, a store and rooms, and prints to a sink.
+///
+/// The store and the rooms come back, the rooms in their order.
+pub fn poudriere<W: Threads + Wait + Sync, T: Tree, S: Store + Send, R: Room + Send, G: Gate + Sync, K: Sink>(
+    _rt: &W,
+    alloc: Global,
+    words: &[Text],
+    tree: &mut T,
+    store: S,
+    rooms: Vec<R>,
+    _gate: &G,
+    out: &mut K,
+) -> Finished<S, R>
+where
+    R::Ways: Send + Sync,
+    requires { vec_len rooms < 2 ^ 32 }
+    ensures cause { IsBlamed result.answer (T.faults tree.old) (T.faults tree.new) (S.faults store) (S.faults result.store) (faults_of_first R.faults rooms.items) (faults_of_first R.faults result.rooms.items) (K.faults out.old) (K.faults out.new) }
+    ensures status { IsStatusOf result.answer result.status }
+    ensures begun { GrewByOne (begun_in_first R.begun rooms.items) (begun_in_first R.begun result.rooms.items) }
+    ensures rooms { vec_len result.rooms ≡ vec_len rooms }
+    ensures others { drop 1 result.rooms.items ≡ drop 1 rooms.items }
+{
+    let mut store = store;
+    let mut rooms = rooms;
+    let closed = if rooms.is_empty() {
+        without_rooms(alloc, words, out)
+    } else {
+        bulk_alone(alloc, words, tree, &mut store, &mut rooms[0], out)
+    };
+    Finished {
+        status: closed.status,
+        answer: closed.answer,
+        store,
+        rooms,
+    }
+}
