@@ -89,6 +89,7 @@ fn read_within(alloc: Global, limits: Limits, bytes: &[u8]) -> Result<Vars, Vars
 ///
 /// The cost is one pass over the bytes, and for each line the length of its variable's value and a look-up for each name
 /// in it.
+#[tactic(auto, using(crate::proofs::ReadSoFar::each_value), unfolding(crate::specs::Variables::variables_of))]
 pub fn read_vars(alloc: Global, bytes: &[u8]) -> Result<Vars, VarsError>
     ensures ok { IfOk result (λ vars. variables_of bytes.now ≡ Ok vars) }
     ensures bad_line { IfErr result (λ e. e ≢ VarsError.NoMemory → variables_of bytes.now ≡ Err e) }
