@@ -4,3 +4,4 @@ pub mod TextBytes
 pub mod WordsSoFar
 pub mod LinesSoFar
 pub mod MapView
+pub mod Paths

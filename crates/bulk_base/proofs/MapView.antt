@@ -1,6 +1,6 @@
 -- A tree map with texts as keys, read as a finite map.
 use Rattle.std.proofs.Common.{◌≡◌, ℕ, Bool, true, false, List, [], ◌∷◌, ap, subst, sym, ◌∙◌, refl}
-use Rattle.std.specs.Prelude.{Option, Some, None, map, cond, ◌&&◌, is_some, T}
+use Rattle.std.specs.Prelude.{Some, None, map, cond, ◌&&◌, is_some, T}
 use Rattle.std.specs.declared.cmp.Ordering.{Ordering}
 use Rattle.std.specs.declared.cmp.Ordering.TheVariants.{Less, Equal, Greater}
 use Rattle.std.specs.Ordering.{nat_cmp, is_eq, is_lt, eq_by_cmp}
@@ -14,7 +14,7 @@ use Rattle.std.specs.FinMap as map
 use Rattle.std.specs.FinMap.{FinMap, IsAntisymmetric, nat_cmp-IsAntisymmetric, slice_cmp-IsAntisymmetric, same_map, get-from_entries, get-insert, get-remove, get-from_sorted, entries-from_sorted, from_entries, from_sorted, entries, get, insert, remove}
 use Rattle.std.specs.FinMap.Entries.{find, is_sorted, below_all}
 
-abbrev order : List ℕ → List ℕ → Ordering
+abbrev pub order : List ℕ → List ℕ → Ordering
 order = slice_cmp nat_cmp
 
 same_keys : IsAntisymmetric order
@@ -67,3 +67,29 @@ keys-view m h = ap (map (λ e. e.0)) (entries-view m.entries h)
 
 pub contains-view : {X : Type 0} (m : tree.BTreeMap (List ℕ) X) (k : List ℕ) → is_some (tree.get order m k) ≡ map.contains_key (view m.entries) k
 contains-view m k = ap is_some (get-view k m)
+
+-- the keys of a finite map strictly rise
+below_all-to : {X : Type 0} (k : List ℕ) (es : List (List ℕ × X)) → T (below_all order k es) → AllByRecursion (λ y. order k y ≡ Less) (map (λ e. e.0) es)
+below_all-to k [] h = tt
+below_all-to k (e ∷ es) h =
+    elim (order k e.0) as (λ o. order k e.0 ≡ o → T (is_lt o && below_all order k es) → (order k e.0 ≡ Less) × AllByRecursion (λ y. order k y ≡ Less) (map (λ e. e.0) es)) [
+      | Less ↦ λ p t. (p, below_all-to k es t)
+      | Equal ↦ λ p t. absurd t
+      | Greater ↦ λ p t. absurd t
+    ] refl h
+
+both-first : (a b : Bool) → T (a && b) → T a
+both-first true b p = tt
+both-first false b p = p
+
+both-second : (a b : Bool) → T (a && b) → T b
+both-second true b p = p
+both-second false b p = absurd p
+
+is_sorted-to : {X : Type 0} (es : List (List ℕ × X)) → T (is_sorted order es) → IsStrictlySortedBy order (map (λ e. e.0) es)
+unfolding IsStrictlySortedBy
+is_sorted-to [] h = tt
+is_sorted-to (e ∷ es) h = (below_all-to e.0 es (both-first (below_all order e.0 es) (is_sorted order es) h), is_sorted-to es (both-second (below_all order e.0 es) (is_sorted order es) h))
+
+pub keys_ascend : {X : Type 0} (m : FinMap order X) → IsStrictlySortedBy order (map.keys m)
+keys_ascend m = is_sorted-to (entries m) (map.entries_sorted m)

@@ -1,6 +1,10 @@
 -- Paths in form: parts joined by `/` (docs/FORMATS.md).
 use Rattle.std.specs.Prelude.{ℕ, Bool, not, ◌&&◌, ◌||◌, ◌==◌, nat_eq, nat_lt, nat_le, List, [], ◌∷◌, ◌++◌, length, IsTrue, bytes_eq}
 use Rattle.std.specs.List.{list_all, slice_split, starts_with}
+use Rattle.bulk_base.specs.declared.text.TextError.{TextError}
+use Rattle.bulk_base.specs.declared.text.TextError.TheVariants.{NotText, NoMemory as TextNoMemory}
+use Rattle.bulk_base.specs.declared.path.PathError.{PathError}
+use Rattle.bulk_base.specs.declared.path.PathError.TheVariants.{BadPath, NoMemory as PathNoMemory}
 
 abbrev pub is_slash : ℕ → Bool
 is_slash b = b == 47
@@ -24,10 +28,15 @@ IsPath path = IsTrue (is_path path)
 abbrev pub joined : List ℕ → List ℕ → List ℕ
 joined folder rest = folder ++ (47 ∷ rest)
 
--- whether a path stands below a folder
+-- the path begins with the folder and a slash
 abbrev pub is_below : List ℕ → List ℕ → Bool
 is_below folder path = starts_with nat_eq path (joined folder [])
 
--- whether two paths cannot both be those of files: they are equal, or one is a folder of the other
+-- the paths are equal or one is below the other
 abbrev pub collides : List ℕ → List ℕ → Bool
-collides a b = bytes_eq a b || is_below a b || is_below b a
+collides a b = bytes_eq a b || is_below b a || is_below a b
+
+-- bytes that are no text are no path
+abbrev pub path_error_of : TextError → PathError
+path_error_of NotText = BadPath
+path_error_of TextNoMemory = PathNoMemory

@@ -2,10 +2,14 @@
 #![tactic(auto)]
 
 mod file;
+mod known;
 mod line;
 mod numeral;
 mod path;
+mod path_map;
 mod sequence;
+#[cfg(test)]
+mod tests;
 mod text;
 mod text_map;
 mod word;
@@ -14,6 +18,7 @@ pub use file::{FileItem, Files, Switch, Switches};
 pub use line::{Span, Spans, lines};
 pub use numeral::{decimal, number};
 pub use path::{Path, PathError, Paths};
+pub use path_map::PathMap;
 pub use sequence::{Bytes, NoMemory, Sequence};
 pub use text::{Text, TextError, Texts};
 pub use text_map::TextMap;

@@ -1,12 +1,12 @@
 // Paths in form: parts joined by `/`.
-ghost use Rattle.std.specs.Prelude.{◌≡◌, ◌<◌, ◌↔◌, ◌+◌, length, IfOk, OnOk, IsErrOf};
+ghost use Rattle.std.specs.Prelude.{◌≡◌, ◌<◌, ◌↔◌, ◌+◌, length, IfOk, OnOk, IsErrOf, nat_eq, slice_index};
 ghost use Rattle.std.specs.List.{list_all};
-ghost use Rattle.bulk_base.specs.Path.{IsPath, parts, joined};
+ghost use Rattle.bulk_base.specs.Path.{IsPath, parts, joined, is_below, collides};
 ghost use Rattle.bulk_base.specs.Text.{IsText};
 ghost use Rattle.bulk_base.specs.declared.path.PathError.TheVariants.{NoMemory as Refused};
 
 use crate::sequence::{NoMemory, Sequence};
-use crate::text::Text;
+use crate::text::{Text, TextError};
 use std::alloc::{AllocError, Global};
 use std::cmp::Ordering;
 use std::fmt;
@@ -26,6 +26,19 @@ impl From<AllocError> for PathError {
 
     fn from(_: AllocError) -> PathError {
         PathError::NoMemory
+    }
+}
+
+impl From<TextError> for PathError {
+    ghost use Rattle.bulk_base.specs.Path.{path_error_of};
+
+    ghost from_gives = { λ error e. e ≡ path_error_of error };
+
+    fn from(error: TextError) -> PathError {
+        match error {
+            TextError::NotText => PathError::BadPath,
+            TextError::NoMemory => PathError::NoMemory,
+        }
     }
 }
 
@@ -68,6 +81,12 @@ fn is_path(bytes: &[u8]) -> bool
     bytes.len() <= 1024 && has_good_parts(bytes)
 }
 
+fn has_slash_at(path: &[u8], at: usize) -> bool
+    ensures { result ≡ nat_eq (slice_index path.now at) 47 }
+{
+    at < path.len() && path[at] == b'/'
+}
+
 impl Path {
     /// The path that a text spells. BadPath exactly where the text is outside the form.
     pub fn from_text(alloc: Global, text: &Text) -> Result<Path, PathError>
@@ -83,6 +102,20 @@ impl Path {
         })
     }
 
+    /// The path that bytes spell. BadPath exactly where the bytes are not a text, or a text outside the form.
+    pub fn from_bytes(alloc: Global, bytes: &[u8]) -> Result<Path, PathError>
+        ensures ok { IfOk result (λ p. p ≡ bytes.now) }
+        ensures form { OnOk result (IsText bytes.now × IsPath bytes.now) }
+        ensures bad_path { IsErrOf result PathError.BadPath ↔ (¬ (IsText bytes.now × IsPath bytes.now)) }
+    {
+        if !is_path(bytes) {
+            return Err(PathError::BadPath);
+        }
+        Ok(Path {
+            text: Text::from_bytes(alloc, bytes)?,
+        })
+    }
+
     /// The path's text.
     pub fn text(&self) -> &Text
         ensures same { result.now ≡ self.now }
@@ -93,7 +126,9 @@ impl Path {
 
     /// The path's bytes.
     pub fn bytes(&self) -> &[u8]
-        ensures { result.now ≡ self.now }
+        ensures same { result.now ≡ self.now }
+        ensures text { IsText self.now }
+        ensures form { IsPath self.now }
     {
         self.text.bytes()
     }
@@ -105,5 +140,99 @@ impl Path {
         Ok(Path {
             text: self.text.copy(alloc)?,
         })
+    }
+
+    /// The path of what stands at `rest` below this path. BadPath exactly where it has more than 1,024 bytes.
+    pub fn join(&self, alloc: Global, rest: &Path) -> Result<Path, PathError>
+        ensures ok { IfOk result (λ p. p ≡ joined self.now rest.now) }
+        ensures bad_path { IsErrOf result PathError.BadPath ↔ (1024 < length (joined self.now rest.now)) }
+    {
+        let folder = self.bytes();
+        let below = rest.bytes();
+        if folder.len() + 1 + below.len() > 1024 {
+            return Err(PathError::BadPath);
+        }
+        Ok(Path {
+            text: Text::from_string(format!(in alloc; "{self}/{rest}")?),
+        })
+    }
+
+    /// Whether this path begins with the folder and a slash.
+    #[tactic(auto, using(crate::proofs::Paths::is_below_by_parts))]
+    pub fn is_below(&self, folder: &Path) -> bool
+        ensures { result ≡ is_below folder.now self.now }
+    {
+        let path = self.bytes();
+        let folder = folder.bytes();
+        path.starts_with(folder) && has_slash_at(path, folder.len())
+    }
+
+    /// Whether the paths are equal or one is below the other, so that no tree can have a file at both.
+    pub fn collides(&self, other: &Path) -> bool
+        ensures { result ≡ collides self.now other.now }
+    {
+        self == other || self.is_below(other) || other.is_below(self)
+    }
+}
+
+impl PartialEq for Path {
+    ghost use Rattle.std.specs.Prelude.{bytes_eq};
+    ghost use Rattle.std.specs.Cmp.{partial_equiv_from_equiv};
+    ghost use Rattle.std.specs.Cmp.Lexicographic.{nat_list_eq_equiv};
+
+    ghost eq = { bytes_eq };
+
+    ghost laws = { partial_equiv_from_equiv nat_list_eq_equiv };
+
+    fn eq(&self, other: &Path) -> bool {
+        self.text == other.text
+    }
+}
+
+impl Eq for Path {
+    ghost use Rattle.std.specs.Cmp.Lexicographic.{nat_list_eq_equiv};
+
+    ghost laws = { nat_list_eq_equiv };
+}
+
+impl PartialOrd for Path {
+    ghost use Rattle.std.specs.Prelude.{Some};
+    ghost use Rattle.std.specs.Cmp.Lexicographic.{slice_cmp, texts_po};
+    ghost use Rattle.std.specs.Ordering.{nat_cmp};
+
+    ghost partial_cmp = { λ a b. Some (slice_cmp nat_cmp a b) };
+
+    ghost laws = { texts_po };
+
+    fn partial_cmp(&self, other: &Path) -> Option<Ordering> {
+        Some(self.cmp(other))
+    }
+}
+
+impl Ord for Path {
+    ghost use Rattle.std.specs.Prelude.{refl};
+    ghost use Rattle.std.specs.Cmp.Lexicographic.{slice_cmp, nat_list_cmp_total, texts_ties};
+    ghost use Rattle.std.specs.Ordering.{nat_cmp};
+
+    ghost cmp = { slice_cmp nat_cmp };
+
+    ghost total = { nat_list_cmp_total };
+
+    ghost matches_partial_cmp = { λ a b. refl };
+
+    ghost matches_eq = { texts_ties };
+
+    fn cmp(&self, other: &Path) -> Ordering {
+        self.text.cmp(&other.text)
+    }
+}
+
+impl fmt::Display for Path {
+    ghost use Rattle.std.specs.Prelude.{Some};
+
+    ghost output = { λ p. Some p };
+
+    fn fmt<W: fmt::Write>(&self, f: &mut fmt::Formatter<W>) -> fmt::Result {
+        f.write_str(self.text.as_str())
     }
 }

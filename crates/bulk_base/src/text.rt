@@ -1,5 +1,5 @@
 // Text in form: UTF-8 without NUL and line feed.
-ghost use Rattle.std.specs.Prelude.{◌≡◌, ◌↔◌, ◌≤◌, ◌-◌, length, take, drop, IsTrue, IfOk, OnOk, IsErrOf};
+ghost use Rattle.std.specs.Prelude.{◌≡◌, ◌↔◌, ◌≤◌, ◌-◌, length, take, drop, IsTrue, IfOk, OnOk, IsErrOf, bytes_eq};
 ghost use Rattle.std.specs.String.{string_bytes};
 ghost use Rattle.std.specs.Str.{IsCharBoundary};
 ghost use Rattle.bulk_base.specs.Text.{IsText};
@@ -95,6 +95,13 @@ impl Text {
         ensures form { IsText self.now }
     {
         self.text.as_str().as_bytes()
+    }
+
+    /// Whether the text has these bytes.
+    pub fn is(&self, bytes: &[u8]) -> bool
+        ensures { result ≡ bytes_eq self.now bytes.now }
+    {
+        self.bytes() == bytes
     }
 
     /// The text between two places at the bounds of characters.

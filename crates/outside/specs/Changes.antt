@@ -1,5 +1,5 @@
 -- Changes of a store: what they leave, and what a call that makes one may leave.
-use Rattle.std.specs.Prelude.{◌≡◌, ℕ, ◌⊎◌, List, [], ◌∷◌, ◌++◌, Result, Ok, Err, if◌then◌else◌, MatchBool}
+use Rattle.std.specs.Prelude.{◌≡◌, ℕ, ◌⊎◌, List, [], ◌∷◌, ◌++◌, Result, Ok, Err, MatchBool}
 use Rattle.std.specs.FinMap.{insert, remove, contains_key}
 use Rattle.outside.specs.Contents.{Contents}
 use Rattle.outside.specs.declared.change.Change.{Change}

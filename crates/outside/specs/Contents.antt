@@ -1,5 +1,5 @@
 -- What a tree, a store or a room's folder holds: a finite map from paths or names to bytes.
-use Rattle.std.specs.Prelude.{◌≡◌, ℕ, Bool, not, List, filter, take, Option, IsTrue}
+use Rattle.std.specs.Prelude.{ℕ, Bool, not, List, filter, take, Option, IsTrue}
 use Rattle.std.specs.Option.{option_map}
 use Rattle.std.specs.Ordering.{nat_cmp}
 use Rattle.std.specs.Cmp.Lexicographic.{slice_cmp}

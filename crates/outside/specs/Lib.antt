@@ -2,3 +2,9 @@ pub mod Faults
 pub mod Contents
 pub mod Changes
 pub mod Outcomes
+pub mod Failures
+pub mod Given
+pub mod Errors
+pub mod InMemory
+pub mod Kept
+pub mod Programs

@@ -3,8 +3,18 @@
 #![tactic(auto)]
 
 mod change;
+mod failure;
+mod folder;
 mod gate;
+mod item;
+mod kept_files;
+mod mem_error;
+mod mem_room;
+mod mem_sink;
+mod mem_store;
+mod mem_tree;
 mod outer;
+mod program;
 mod room;
 mod sink;
 mod store;
@@ -12,10 +22,20 @@ mod tree;
 mod ways;
 
 pub use change::Change;
+pub use failure::{CallKind, Fail, Fails};
 pub use gate::{Gate, OpenGate};
+pub use item::{Item, Items};
+pub use mem_error::MemError;
+pub use mem_room::{MemRoom, MemWays};
+pub use mem_sink::MemSink;
+pub use mem_store::MemStore;
+pub use mem_tree::MemTree;
 pub use outer::Outer;
 pub use room::Room;
 pub use sink::Sink;
 pub use store::Store;
 pub use tree::Tree;
 pub use ways::{Untold, Ways};
+
+#[cfg(test)]
+mod tests;
