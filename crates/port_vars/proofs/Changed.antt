@@ -2,7 +2,6 @@
 use Rattle.std.proofs.Common.{◌≡◌, ℕ, ◌+◌, ◌<◌, ◌≤◌, Bool, true, false, List, [], ◌∷◌, ◌++◌, length, take, cond, arith, ap, sym, ◌∙◌, refl, inl, inr, Option, Some, None, Result, Ok, Err, nat_le}
 use Rattle.std.specs.Prelude.{◌⊎◌, ◌==◌}
 use Rattle.std.proofs.lemmas.Bool.{cases_lt}
-use Rattle.std.proofs.lemmas.Bool.Decides.{nat_tests}
 use Rattle.std.proofs.lemmas.List.{take_all, length-take, length-append}
 use Rattle.bulk_base.specs.Text.{IsText}
 use Rattle.port_vars.specs.declared.fault.LineKind.{LineKind}
@@ -14,6 +13,7 @@ use Rattle.port_vars.specs.Variables.{Vars, after}
 use Rattle.port_vars.specs.Assignment.{mapped}
 use Rattle.std.specs.FinMap as map
 use Rattle.port_vars.proofs.TextParts.{IsText-append, IsText-byte}
+use Rattle.port_vars.proofs.Decided.{le_false}
 
 -- both values are one, or both are too long
 abbrev Alike : ℕ → List ℕ → List ℕ → Type 0
@@ -37,9 +37,6 @@ first_alike limit text = elim (cases_lt limit (length text)) [
   | inr g ↦ inl (take_all (limit + 1) text (omega arith))
 ]
 
-too_long : (m n : ℕ) → n < m → nat_le m n ≡ false
-too_long m n l = grind (arith, nat_tests)
-
 abbrev by_text : List ℕ → Operator → List ℕ → Assignment
 by_text name operator text = record { name = name; operator = operator; text = text }
 
@@ -49,8 +46,8 @@ done limit vars name value = cond (nat_le (length value) limit) (Ok (map.insert 
 alike_done : (limit : ℕ) (vars : Vars) (name a b : List ℕ) → Alike limit a b → done limit vars name a ≡ done limit vars name b
 alike_done limit vars name a b (inl e) = ap (done limit vars name) e
 alike_done limit vars name a b (inr l) =
-    ap (λ t. cond t (Ok (map.insert vars name a)) (Err TooLong)) (too_long (length a) limit l.0)
-    ∙ sym (ap (λ t. cond t (Ok (map.insert vars name b)) (Err TooLong)) (too_long (length b) limit l.1))
+    ap (λ t. cond t (Ok (map.insert vars name a)) (Err TooLong)) (le_false (length a) limit l.0)
+    ∙ sym (ap (λ t. cond t (Ok (map.insert vars name b)) (Err TooLong)) (le_false (length b) limit l.1))
 
 done_case : (limit : ℕ) (vars : Vars) (by : Assignment) (t : Bool) → mapped (after vars) (cond t (Ok by) (Err TooLong)) ≡ cond t (Ok (after vars by)) (Err TooLong)
 done_case limit vars by true = refl

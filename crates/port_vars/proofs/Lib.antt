@@ -1,3 +1,4 @@
+pub mod Decided
 pub mod TextParts
 pub mod PiecesSoFar
 pub mod KeptSoFar

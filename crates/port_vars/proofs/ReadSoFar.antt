@@ -1,5 +1,5 @@
 -- What the loop over a file's joined lines keeps.
-use Rattle.std.proofs.Common.{◌≡◌, ℕ, ◌+◌, ◌≤◌, ◌<◌, Bool, true, false, not, List, [], ◌∷◌, length, get_or, drop, cond, ap, sym, ◌∙◌, refl, arith, Option, Some, None, Result, Ok, Err, nat_le}
+use Rattle.std.proofs.Common.{◌≡◌, ℕ, ◌+◌, ◌≤◌, ◌<◌, Bool, not, List, [], ◌∷◌, length, get_or, drop, cond, ap, sym, ◌∙◌, refl, Option, Some, None, Result, Ok, Err}
 use Rattle.std.specs.Prelude.{bytes_eq, IfOk}
 use Rattle.std.specs.Ordering.{nat_cmp, eq_by_cmp}
 use Rattle.std.specs.Cmp.{eq_by_cmp_equiv}
@@ -7,7 +7,6 @@ use Rattle.std.specs.Cmp.Lexicographic.{slice_cmp, nat_list_cmp_total, texts_tie
 use Rattle.std.specs.FinMap as map
 use Rattle.std.specs.FinMap.{get-insert, get-empty}
 use Rattle.std.proofs.lemmas.List.{drop_more, drop_all}
-use Rattle.std.proofs.lemmas.Bool.Decides.{nat_tests}
 use mathlib.Core.Path.{fun_ext}
 use Rattle.port_vars.specs.declared.fault.LineKind.{LineKind}
 use Rattle.port_vars.specs.declared.fault.LineKind.TheVariants.{TooLong}
@@ -19,6 +18,7 @@ use Rattle.port_vars.specs.Joined.{joined}
 use Rattle.port_vars.specs.Assignment.{Assignment, value_by, said, mapped}
 use Rattle.port_vars.specs.Variables.{Vars, value_after, variables, after, after_line, at_line, assignments_from, assignments, variables_within, small, value_where, value_in}
 use Rattle.port_vars.specs.Answers.{LeavesAt}
+use Rattle.port_vars.proofs.Decided.{le_true, le_false}
 
 -- the finite map has the values
 same_name : (last name : List ℕ) → eq_by_cmp (slice_cmp nat_cmp) name last ≡ bytes_eq last name
@@ -85,23 +85,16 @@ failed limits line rest vars above kind (Ok None) h = cc
 failed limits line rest vars above kind (Ok (Some by)) h = cc
 failed limits line rest vars above kind (Err found) h = let same : found ≡ kind = cc in ap (λ k. Err (at_line line.number k)) same
 
--- the file fits
-fits_case : (m n : ℕ) → m ≤ n → nat_le m n ≡ true
-fits_case m n l = grind (arith, nat_tests)
-
-fails_case : (m n : ℕ) → n < m → nat_le m n ≡ false
-fails_case m n l = grind (arith, nat_tests)
-
 abbrev by_size : Limits → List ℕ → Bool → Result (List Assignment) VarsError
 by_size limits bytes fits = cond (not fits) (Err (at_line 0 TooLong)) (assignments_from limits [] (joined bytes))
 
 assignments_are : (limits : Limits) (bytes : List ℕ) (lines : List Line) → length bytes ≤ limits.file → lines ≡ joined bytes → assignments limits bytes ≡ assignments_from limits [] lines
 unfolding assignments
-assignments_are limits bytes lines l e = ap (by_size limits bytes) (fits_case _ _ l) ∙ ap (assignments_from limits []) (sym e)
+assignments_are limits bytes lines l e = ap (by_size limits bytes) (le_true _ _ l) ∙ ap (assignments_from limits []) (sym e)
 
 pub too_long : (limits : Limits) (bytes : List ℕ) → limits.file < length bytes → variables_within limits bytes ≡ Err (BadLine 0 TooLong)
 unfolding assignments
-too_long limits bytes l = ap (λ b. mapped variables (by_size limits bytes b)) (fails_case _ _ l)
+too_long limits bytes l = ap (λ b. mapped variables (by_size limits bytes b)) (le_false _ _ l)
 
 pub read_all : (limits : Limits) (bytes : List ℕ) (lines : List Line) (at : ℕ) (vars : Vars) → length bytes ≤ limits.file → lines ≡ joined bytes → length lines ≤ at
     → ReadSoFar limits lines at vars → variables_within limits bytes ≡ Ok vars

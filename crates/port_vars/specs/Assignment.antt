@@ -24,11 +24,13 @@ pub record Assignment : Type 0 where
   pub operator : Operator
   pub text : List ℕ
 
+-- a step that may fail, then the next
 infixl 10 ◌>>=◌
 abbrev pub ◌>>=◌ : {A B E : Type 0} → Result A E → (A → Result B E) → Result B E
 Ok a >>= f = f a
 Err e >>= f = Err e
 
+-- a good answer, changed
 abbrev pub mapped : {A B E : Type 0} → (A → B) → Result A E → Result B E
 mapped f (Ok a) = Ok (f a)
 mapped f (Err e) = Err e
@@ -53,9 +55,11 @@ changed Default (Some value) text = value
 abbrev pub value_by : Values → Assignment → List ℕ
 value_by values by = changed by.operator (values by.name) by.text
 
+-- a name in form, else BadName
 abbrev pub in_form : List ℕ → Result (List ℕ) LineKind
 in_form name = if is_name name then Ok name else Err BadName
 
+-- an assignment after which its variable has at most so many bytes, else TooLong
 abbrev pub within : ℕ → Values → Assignment → Result Assignment LineKind
 within limit values by = if nat_le (length (value_by values by)) limit then Ok by else Err TooLong
 

@@ -10,6 +10,7 @@ use Rattle.port_vars.specs.Trim.{trim_start}
 abbrev pub ends_in_backslash : List ℕ → Bool
 ends_in_backslash text = slice_index text (length text - 1) == 92
 
+-- a text but its last byte
 abbrev pub without_last : List ℕ → List ℕ
 without_last text = take (length text - 1) text
 

@@ -23,6 +23,7 @@ Values = List ℕ → Option (List ℕ)
 abbrev pub value_of : Values → List ℕ → Option (List ℕ)
 value_of values name = if is_name name then values name else None
 
+-- a step that may give nothing, then the next
 infixl 10 ◌>>=◌
 abbrev pub ◌>>=◌ : {A B : Type 0} → Option A → (A → Option B) → Option B
 o >>= f = option_and_then f o

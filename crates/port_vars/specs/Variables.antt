@@ -26,7 +26,7 @@ abbrev pub value_after : List Assignment → Values
 value_after [] name = None
 value_after (last ∷ above) name = if bytes_eq last.name name then Some (value_by (value_after above) last) else value_after above name
 
--- the same as a finite map
+-- the same as a finite map: each assignment gives its variable its value
 abbrev pub variables : List Assignment → Vars
 variables [] = empty
 variables (last ∷ above) = insert (variables above) last.name (value_by (value_after above) last)
@@ -40,6 +40,7 @@ abbrev pub after_line : Vars → Option Assignment → Vars
 after_line vars None = vars
 after_line vars (Some by) = after vars by
 
+-- a fault at a line; 0 stands for the whole file
 abbrev pub at_line : ℕ → LineKind → VarsError
 at_line line kind = BadLine line kind
 
@@ -71,6 +72,7 @@ small = record { file = 65536; line = 8192; value = 8192 }
 unfoldable pub variables_of : List ℕ → Result Vars VarsError
 variables_of bytes = variables_within small bytes
 
+-- the values of variables, none where there is a fault
 abbrev pub value_where : Result (List Assignment) VarsError → Values
 value_where (Ok all) name = value_after all name
 value_where (Err fault) name = None

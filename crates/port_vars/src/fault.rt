@@ -6,7 +6,7 @@ ghost use Rattle.port_vars.specs.declared.fault.LineError.TheVariants.{NoMemory 
 use std::alloc::AllocError;
 use thiserror::Error;
 
-/// What is wrong with a line.
+/// What is wrong with a line (docs/FORMATS.md, "Variable files").
 #[derive(Clone, Copy, Debug, PartialEq, Eq, Error)]
 pub enum LineKind {
     /// The line holds NUL or is not UTF-8.
@@ -26,7 +26,7 @@ pub enum LineKind {
     Reference,
 }
 
-/// Why bytes gave no variables.
+/// Why bytes gave no variables (docs/FORMATS.md, "Variable files").
 #[derive(Clone, Copy, Debug, PartialEq, Eq, Error)]
 pub enum VarsError {
     /// The first line that is outside the grammar, and what is wrong with it.

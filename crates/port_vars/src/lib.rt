@@ -10,6 +10,8 @@ mod name;
 mod operator;
 mod piece;
 mod reference;
+#[cfg(test)]
+mod tests;
 mod trim;
 mod vars;
 

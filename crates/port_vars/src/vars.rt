@@ -87,8 +87,9 @@ fn read_within(alloc: Global, limits: Limits, bytes: &[u8]) -> Result<Vars, Vars
 /// BadLine exactly where the file is outside the grammar, with the number of the first line that is and what is wrong with
 /// it first in the order of the rules: 0 and TooLong where the file has too many bytes. NoMemory for want of memory alone.
 ///
-/// The cost is one pass over the bytes, and for each line the length of its variable's value and a look-up for each name
-/// in it.
+/// Each byte is looked at a fixed number of times; a line costs the length of its variable's value, and a look-up of
+/// O(log n) comparisons for each name in it. Besides the variables, one copy of the file and of one value are held.
+#[tactic(auto, using(crate::proofs::ReadSoFar::each_value), unfolding(crate::specs::Variables::variables_of))]
 pub fn read_vars(alloc: Global, bytes: &[u8]) -> Result<Vars, VarsError>
     ensures ok { IfOk result (λ vars. variables_of bytes.now ≡ Ok vars) }
     ensures bad_line { IfErr result (λ e. e ≢ VarsError.NoMemory → variables_of bytes.now ≡ Err e) }
