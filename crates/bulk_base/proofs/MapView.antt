@@ -1,6 +1,6 @@
 -- A tree map with texts as keys, read as a finite map.
 use Rattle.std.proofs.Common.{◌≡◌, ℕ, Bool, true, false, List, [], ◌∷◌, ap, subst, sym, ◌∙◌, refl}
-use Rattle.std.specs.Prelude.{Option, Some, None, map, cond, ◌&&◌, is_some, T}
+use Rattle.std.specs.Prelude.{Some, None, map, cond, ◌&&◌, is_some, T}
 use Rattle.std.specs.declared.cmp.Ordering.{Ordering}
 use Rattle.std.specs.declared.cmp.Ordering.TheVariants.{Less, Equal, Greater}
 use Rattle.std.specs.Ordering.{nat_cmp, is_eq, is_lt, eq_by_cmp}

@@ -3,3 +3,4 @@ pub mod Path
 pub mod Words
 pub mod Number
 pub mod Lines
+pub mod Names

@@ -2,11 +2,14 @@
 #![tactic(auto)]
 
 mod file;
+mod known;
 mod line;
 mod numeral;
 mod path;
 mod path_map;
 mod sequence;
+#[cfg(test)]
+mod tests;
 mod text;
 mod text_map;
 mod word;

@@ -57,7 +57,9 @@ impl<V> PathMap<V> {
     pub fn has_nested(&self, path: &Path) -> bool
         ensures { result ≡ list_any (λ other. is_below path.now other || is_below other path.now) (map.keys self.now) }
     {
-        self.entries.keys().any(|other| other.is_below(path) || path.is_below(other))
+        self.entries
+            .keys()
+            .any(|other| other.is_below(path) || path.is_below(other))
     }
 
     /// All paths that have a value, in byte order, each once.

@@ -1,4 +1,4 @@
-use Rattle.std.proofs.Common.{◌≡◌, ◌∙◌, ap, sym, subst, List}
+use Rattle.std.proofs.Common.{◌∙◌, ap, sym, subst}
 use Rattle.std.specs.Prelude.{filter}
 use Rattle.std.specs.BTreeMap as tree
 use Rattle.std.specs.FinMap as map
@@ -16,6 +16,6 @@ returns g c =
     let all =
     c.loop-key.invariant
     ∙ ap (filter test)
-      ((iter_end deref (tree.keys c.self.inside.entries) c.loop-key.yielded _ _ _ _ (c.into_iter-key-iterator.ensures.into_iter_gives ∙ c.keys-key-items.ensures.rest) c.loop-key.yielded_by c.in-None.is c.next.ensures.steps).0
-       ∙ sym (keys-view c.self.inside.entries c.keys-key-items.ensures.ordered) ∙ ap map.keys c.self.view_is) in
+    ((iter_end deref (tree.keys c.self.inside.entries) c.loop-key.yielded _ _ _ _ (c.into_iter-key-iterator.ensures.into_iter_gives ∙ c.keys-key-items.ensures.rest) c.loop-key.yielded_by c.in-None.is c.next.ensures.steps).0
+    ∙ sym (keys-view c.self.inside.entries c.keys-key-items.ensures.ordered) ∙ ap map.keys c.self.view_is) in
     record { below = all; order = subst (IsStrictlySortedBy order) (sym all) (IsStrictlySortedBy-filter order test (map.keys c.args.self.now) (keys_ascend c.args.self.now)) }

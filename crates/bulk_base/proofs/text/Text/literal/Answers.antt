@@ -1,0 +1,5 @@
+use Rattle.bulk_base.proofs.Paths.{is_text-plain}
+use Rattle.bulk_base.proofs.text.Text.literal.Goals as goal
+
+pub of-requires : goal.of-requires
+of-requires c = is_text-plain _ c.requires

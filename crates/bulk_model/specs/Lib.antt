@@ -1,0 +1,15 @@
+pub mod Views
+pub mod Facts
+pub mod Files
+pub mod Weight
+pub mod PlanView
+pub mod PlanFacts
+pub mod Installs
+pub mod Bake
+pub mod Results
+pub mod Spelling
+pub mod Fit
+pub mod Cause
+pub mod Lists
+pub mod Sound
+pub mod Baked

@@ -1,0 +1,24 @@
+//! What is built and what comes of it: ports as jobs, packages, plans, statuses, and what a build is.
+#![tactic(auto)]
+
+mod baking;
+mod depend;
+mod job;
+mod outcome;
+mod package;
+mod plan;
+mod reason;
+mod results;
+mod shared;
+mod steps;
+
+pub use baking::Baking;
+pub use depend::{DepKind, Depend, Depends};
+pub use job::{Job, Jobs};
+pub use outcome::{Outcome, Phase};
+pub use package::{Package, Packages, weight};
+pub use plan::{Edge, EdgeLists, Edges, Kept, MaybePackages, MaybeTexts, Numbers, Plan};
+pub use reason::{Notice, Notices, Reason, Stale, Stales, Which};
+pub use results::{Results, Status, Statuses};
+pub use shared::Shared;
+pub use steps::{Command, Commands, Steps};

@@ -1,0 +1,11 @@
+use Rattle.std.proofs.Common.{◌∙◌, append_assoc}
+use Rattle.bulk_run.proofs.answer_line.text.Goals as goal
+
+pub returns-in_ok-format-in-Builders : goal.returns-in_ok-format-in-Builders
+returns-in_ok-format-in-Builders c = rw c.in-Builders.is (c.in_ok-format-in-Builders.ensures.ok ∙ simp append_assoc)
+
+pub returns-in_ok-format-in-NotYet : goal.returns-in_ok-format-in-NotYet
+returns-in_ok-format-in-NotYet c = rw c.in-NotYet.is (c.in_ok-format-in-NotYet.ensures.ok ∙ simp append_assoc)
+
+pub returns-in_ok-format-in-RoomFault : goal.returns-in_ok-format-in-RoomFault
+returns-in_ok-format-in-RoomFault c = rw c.in-RoomFault.is (c.in_ok-format-in-RoomFault.ensures.ok ∙ simp append_assoc)

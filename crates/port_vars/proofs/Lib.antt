@@ -1,0 +1,14 @@
+pub mod TextParts
+pub mod PiecesSoFar
+pub mod KeptSoFar
+pub mod Names
+pub mod FirstBytes
+pub mod Referenced
+pub mod ExpandedSoFar
+pub mod Trimmed
+pub mod Readable
+pub mod Changed
+pub mod Assigned
+pub mod Taken
+pub mod JoinedSoFar
+pub mod ReadSoFar

@@ -1,0 +1,7 @@
+pub mod Trim
+pub mod Joined
+pub mod Comment
+pub mod Reference
+pub mod Assignment
+pub mod Variables
+pub mod Answers

@@ -1,0 +1,40 @@
+// Texts without the blanks at their ends.
+ghost use Rattle.std.specs.Prelude.{◌≡◌};
+ghost use Rattle.bulk_base.specs.Words.{is_blank};
+ghost use Rattle.port_vars.specs.Trim.{trim_start, trim_end, trim};
+
+fn is_blank(byte: u8) -> bool
+    ensures { result ≡ is_blank byte }
+{
+    byte == b' ' || byte == b'\t'
+}
+
+/// A text without its leading blanks.
+pub(crate) fn trim_start(text: &[u8]) -> &[u8]
+    ensures { result.now ≡ trim_start text.now }
+{
+    for at in 0..text.len() {
+        if !is_blank(text[at]) {
+            return &text[at..];
+        }
+    }
+    &text[text.len()..]
+}
+
+fn trim_end(text: &[u8]) -> &[u8]
+    ensures { result.now ≡ trim_end text.now }
+{
+    let mut end = text.len();
+    while end > 0 && is_blank(text[end - 1]) {
+        end -= 1;
+    }
+    &text[..end]
+}
+
+/// A text without the blanks at its ends.
+#[tactic(auto, unfolding(crate::specs::Trim::trim))]
+pub(crate) fn trim(text: &[u8]) -> &[u8]
+    ensures { result.now ≡ trim text.now }
+{
+    trim_end(trim_start(text))
+}

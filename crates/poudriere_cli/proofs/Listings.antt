@@ -1,0 +1,107 @@
+-- Lists that rise, searches in them, and paths of which none is a folder of another.
+use Rattle.std.proofs.Common.{◌≡◌, ◌↔◌, ℕ, ◌+◌, ◌<◌, ◌≤◌, Bool, true, false, not, List, [], ◌∷◌, ◌++◌, length, get_or, take, drop, IsTrue, Contains, nat_eq, arith, sym, ap, subst, refl, ◌∙◌, inl, inr, ⊎_elim, ◌⊎◌, suc}
+use Rattle.std.specs.Prelude.{Result, Ok, Err, cond, ◌&&◌}
+use Rattle.std.specs.declared.cmp.Ordering.{Ordering}
+use Rattle.std.specs.declared.cmp.Ordering.TheVariants.{Less, Equal, Greater}
+use Rattle.std.specs.Ordering.{is_lt, is_eq, nat_cmp, ordering_reverse}
+use Rattle.std.specs.Result.{is_ok}
+use Rattle.std.specs.Cmp.{IsTotalOrder}
+use Rattle.std.specs.Cmp.Lexicographic.{slice_cmp}
+use Rattle.std.specs.List.{IsAllAdjacentAnswer, AllAdjacentBelow, list_all}
+use Rattle.std.specs.List.Sorted.{IsStrictlySortedBy, IsSortedBy, IsBinarySearchResult, IsSearchInRange}
+use Rattle.std.proofs.lemmas.Bool.{cases_Bool, cases_lt}
+use Rattle.std.proofs.lemmas.Cmp.{nat_list_cmp_total, tied_itself}
+use Rattle.std.proofs.lemmas.Map.Text.{is_eq-slice_cmp}
+use Rattle.std.proofs.lemmas.Slice.Eq.{bytes_eq-Decides, starts_is}
+use Rattle.std.proofs.lemmas.Bool.Decides.{Decides-eqb}
+use Rattle.std.proofs.lemmas.List.{length-append, length-take, length-drop, take-append-drop, get_or_default}
+use Rattle.std.proofs.lemmas.List.Sorted.{searchable_from_sorted}
+use Rattle.std.proofs.lemmas.List.Sums.{AllPass-from_list_all, list_all-from_AllPass}
+use Rattle.std.proofs.lemmas.List.Folds.{list_all_at}
+use Rattle.std.proofs.lemmas.Map.Keys.{sorted_from_all_adjacent, Less-from_sorted}
+use Rattle.std.proofs.Math.Seq.{get_or-append_seam, take-append_seam, drop-cons}
+use Rattle.bulk_base.specs.Path.{is_below, joined}
+use Rattle.bulk_base.proofs.Paths.{below_is_joined, is_below_by_parts, is_below-joined}
+use Rattle.outside.specs.Contents.{IsAscending}
+
+is_lt-Less : (o : Ordering) → true ≡ is_lt o → o ≡ Less
+is_lt-Less Less e = refl
+is_lt-Less Equal e = cc
+is_lt-Less Greater e = cc
+
+rising : {K : Type 0} {R : K → K → Ordering} (o : IsTotalOrder R) (xs : List K) → AllAdjacentBelow (λ x y. true ≡ is_lt (R x y)) xs (length xs) → IsStrictlySortedBy R xs
+unfolding IsStrictlySortedBy
+rising o [] h = tt
+rising o (x ∷ xs) h = sorted_from_all_adjacent o (x ∷ xs) x (λ k l. is_lt-Less _ (h k x l))
+
+-- each element is below the next just where each is below all those after it
+pub rises : {K : Type 0} {R : K → K → Ordering} (o : IsTotalOrder R) (xs : List K) (r : Bool) → IsAllAdjacentAnswer (λ x y b. b ≡ is_lt (R x y)) xs r → IsTrue r ↔ IsStrictlySortedBy R xs
+rises o xs true a = (λ e. rising o xs a, λ s. refl)
+rises o [] false a = let no : ⊥ = omega arith in absurd no
+rises {R = R} o (x ∷ xs) false a =
+    (λ e. cc, λ s. let less : R (get_or (x ∷ xs) a.0 x) (get_or (x ∷ xs) (a.0 + 1) x) ≡ Less = Less-from_sorted R (x ∷ xs) a.0 (a.0 + 1) x s (omega arith) a.1 in let no = a.2 x in cc)
+
+sorted_from_ascending : (xs : List (List ℕ)) → IsAscending xs → IsSortedBy (λ x y. is_lt (slice_cmp nat_cmp x y)) xs
+sorted_from_ascending xs s k d low high =
+    let less : slice_cmp nat_cmp (get_or xs k d) (get_or xs (k + 1) d) ≡ Less = Less-from_sorted (slice_cmp nat_cmp) xs k (k + 1) d s (omega arith) high in
+    ap is_lt (nat_list_cmp_total.antisymm (get_or xs (k + 1) d) (get_or xs k d) ∙ ap ordering_reverse less)
+
+-- a binary search in an ascending list finds each element, and nothing else
+pub searched_text : (xs : List (List ℕ)) (key : List ℕ) (r : Result ℕ ℕ) → IsAscending xs → IsSearchInRange r (length xs) → IsBinarySearchResult (λ y. slice_cmp nat_cmp y key) xs r → IsTrue (is_ok r) ↔ Contains xs key
+searched_text xs key (Ok k) s within at =
+    let same : get_or xs k key ≡ key = (bytes_eq-Decides (get_or xs k key) key).0 (sym (is_eq-slice_cmp (get_or xs k key) key) ∙ ap is_eq (at key)) in
+    (λ e. (k, within, same), λ c. refl)
+searched_text xs key (Err i) s within at =
+    let cut = at (searchable_from_sorted nat_list_cmp_total (λ x. x) xs key (sorted_from_ascending xs s)) in
+    let tied : slice_cmp nat_cmp key key ≡ Equal = tied_itself nat_list_cmp_total key in
+    let missed : Contains xs key → ⊥ = λ c. ⊎_elim
+    (λ low. let less : slice_cmp nat_cmp (get_or xs c.0 key) key ≡ Less = cut.0 c.0 key (omega arith) low in let e = c.2 in let all : Less ≡ Equal = cc in cc)
+    (λ high. let more : slice_cmp nat_cmp (get_or xs c.0 key) key ≡ Greater = cut.1 c.0 key high c.1 in let e = c.2 in let all : Greater ≡ Equal = cc in cc)
+    (cases_lt c.0 i) in
+    (λ e. cc, λ c. absurd (missed c))
+
+-- what a folder is joined to begins with the folder, and a slash stands behind that
+slash_behind : (folder path : List ℕ) → is_below folder path ≡ true → (length folder < length path) × (get_or path (length folder) 0 ≡ 47) × (take (length folder) path ≡ folder)
+slash_behind folder path h =
+    let e : path ≡ joined folder (drop (length folder + 1) path) = below_is_joined folder path h in
+    let rest = drop (length folder + 1) path in (
+      omega (arith, ap length e, length-append folder (47 ∷ rest)),
+      ap (λ p. get_or p (length folder) 0) e ∙ get_or-append_seam folder 47 rest 0,
+      ap (take (length folder)) e ∙ take-append_seam folder (47 ∷ rest),
+    )
+
+-- no folder of the path is among the paths, where none of its beginnings that end before a slash is
+pub none_above : (paths : List (List ℕ)) (path : List ℕ) → ((k : ℕ) → k < length path → get_or path k 0 ≡ 47 → Contains paths (take k path) → ⊥)
+    → list_all (λ folder. not (is_below folder path)) paths ≡ true
+none_above paths path h = list_all-from_AllPass (λ folder. not (is_below folder path)) paths (λ k d l. apart k d l (cases_Bool (is_below (get_or paths k d) path)))
+  where
+    apart : (k : ℕ) (d : List ℕ) → k < length paths → (is_below (get_or paths k d) path ≡ true) ⊎ (is_below (get_or paths k d) path ≡ false) → not (is_below (get_or paths k d) path) ≡ true
+    apart k d l (inl e) =
+        let s = slash_behind (get_or paths k d) path e in
+        absurd (h (length (get_or paths k d)) s.0 s.1 (k, l, get_or_default paths k _ d l ∙ sym s.2))
+    apart k d l (inr e) = ap not e
+
+-- the beginning of a path that ends before a slash is a folder of the path
+pub begins_below : (path : List ℕ) (k : ℕ) → k < length path → get_or path k 0 ≡ 47 → is_below (take k path) path ≡ true
+begins_below path k l e =
+    let whole : path ≡ joined (take k path) (drop (suc k) path) =
+    sym (take-append-drop k path) ∙ ap (λ l. take k path ++ l) (drop-cons path k 0 l ∙ ap (λ b. b ∷ drop (suc k) path) e) in
+    subst (λ p. is_below (take k path) p ≡ true) (sym whole) (is_below-joined (take k path) (drop (suc k) path))
+
+-- a folder of the path is among the paths
+pub one_above : (paths : List (List ℕ)) (path : List ℕ) (k : ℕ) → k < length path → get_or path k 0 ≡ 47 → Contains paths (take k path) → list_all (λ folder. not (is_below folder path)) paths ≡ false
+one_above paths path k l e c = list_all_at (λ folder. not (is_below folder path)) paths c.0 (take k path) c.1 (ap (λ f. not (is_below f path)) c.2 ∙ ap not (begins_below path k l e))
+
+both_ways : (a b : Bool) → (a ≡ true → b ≡ true) → (b ≡ true → a ≡ true) → a ≡ b
+both_ways true b f h = sym (f refl)
+both_ways false true f h = h refl
+both_ways false false f h = refl
+
+through : {X Y : Type 0} (p : X → Y → Bool) (xs : List X) (ys : List Y) → list_all (λ x. list_all (λ y. p x y) ys) xs ≡ true → list_all (λ y. list_all (λ x. p x y) xs) ys ≡ true
+through p xs ys h =
+    list_all-from_AllPass (λ y. list_all (λ x. p x y) xs) ys (λ j e m. list_all-from_AllPass (λ x. p x (get_or ys j e)) xs (λ k d l.
+    AllPass-from_list_all (λ y. p (get_or xs k d) y) ys (AllPass-from_list_all (λ x. list_all (λ y. p x y) ys) xs h k d l) j e m))
+
+-- a test of all pairs gives the same whichever side goes first
+pub all_pairs_swapped : {X Y : Type 0} (p : X → Y → Bool) (xs : List X) (ys : List Y) → list_all (λ x. list_all (λ y. p x y) ys) xs ≡ list_all (λ y. list_all (λ x. p x y) xs) ys
+all_pairs_swapped p xs ys = both_ways _ _ (through p xs ys) (through (λ y x. p x y) ys xs)

@@ -1,0 +1,11 @@
+use Rattle.std.proofs.Common.{◌≡◌, ℕ, ◌<◌, get_or, take, arith, sym, Contains}
+use Rattle.std.proofs.lemmas.Grind.{common_steps}
+use Rattle.poudriere_cli.proofs.Listings.{none_above, one_above}
+use Rattle.poudriere_cli.proofs.listing.has_free_folders.Goals as goal
+
+pub returns-then-has_path : goal.returns-then-has_path
+returns-then-has_path c =
+    grind (arith, common_steps, one_above c.args.paths.now c.args.path.now c.loop-at.at)
+
+pub returns : goal.returns
+returns c = grind (arith, common_steps, none_above c.args.paths.now c.args.path.now)

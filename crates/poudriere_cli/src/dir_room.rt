@@ -1,0 +1,132 @@
+// A room to build in, on a disk.
+ghost use Rattle.std.specs.Prelude.{◌≤◌, IfOk, IfSome, vec_len};
+ghost use Rattle.outside.specs.Contents.{IsListing};
+
+use crate::fault::{noted, outer};
+use crate::listing::listing;
+use crate::place::{first_bytes, pass_no_name, place};
+use crate::walk::files_below;
+use bulk_base::{NoMemory, Path, Paths, Text};
+use outside::{Outer, Room, Untold};
+use std::alloc::Global;
+use std::fs;
+use std::process::{Command, Processes, Stdio};
+use std::rt::Files;
+
+/// Enters the folder that the first word names, and becomes the program that the others name.
+const IN_FOLDER: &str = "cd \"$0\" && exec \"$@\" </dev/null >/dev/null 2>&1";
+
+/// The status of a command that a signal ended.
+const ENDED_BY_SIGNAL: u8 = 255;
+
+/// A room in a folder of a disk, links followed. Its commands are started by the system's shell.
+#[derive(Drop)]
+pub struct DirRoom<R: Files + Processes + AllocGlobal + Clone + Drop> {
+    rt: R,
+    folder: String,
+    begun: Vec<Text>,
+    faults: u64,
+}
+
+impl<R: Files + Processes + AllocGlobal + Clone + Drop> DirRoom<R> {
+    /// The room in a folder, which may be absent: the first build makes it.
+    pub fn new(rt: R, alloc: Global, folder: String) -> DirRoom<R> {
+        DirRoom {
+            rt,
+            folder,
+            begun: Vec::new(alloc),
+            faults: 0,
+        }
+    }
+
+    /// Removes all that the room's folder holds, and makes an empty `stage` in it.
+    fn empty(&self, alloc: Global) -> Result<(), Outer> {
+        let folder = self.folder.as_str();
+        let stage = place(alloc, folder, "stage")?;
+        if let Err(error) = fs::remove_dir_all(&self.rt, folder) {
+            pass_no_name(&self.rt, folder, error)?;
+        }
+        fs::create_dir_all(&self.rt, stage.as_str()).map_err(outer)
+    }
+
+    fn write(&self, alloc: Global, path: &Path, bytes: &[u8]) -> Result<(), Outer> {
+        let place = place(alloc, self.folder.as_str(), path.text().as_str())?;
+        if let Some((folder, _)) = place.as_str().rsplit_once('/') {
+            fs::create_dir_all(&self.rt, folder).map_err(outer)?;
+        }
+        fs::write(&self.rt, place.as_str(), bytes).map_err(outer)
+    }
+
+    /// The shell's command that runs these words in the room. What the shell itself says of the folder is not seen.
+    fn command(&self, alloc: Global, words: &[Text]) -> Result<Command, NoMemory> {
+        let mut command = Command::new(alloc, "/bin/sh")?;
+        command.arg("-c")?;
+        command.arg(IN_FOLDER)?;
+        command.arg(self.folder.as_str())?;
+        for word in words {
+            command.arg(word.as_str())?;
+        }
+        command.stderr(Stdio::null());
+        Ok(command)
+    }
+
+    fn status(&self, alloc: Global, words: &[Text]) -> Result<u8, Outer> {
+        let mut command = self.command(alloc, words)?;
+        let status = command.status(&self.rt).map_err(outer)?;
+        match status.code() {
+            Some(code) => Ok(u8::try_from(code).unwrap_or(ENDED_BY_SIGNAL)),
+            None => Ok(ENDED_BY_SIGNAL),
+        }
+    }
+
+    fn listed(&self, folder: &Path) -> Result<Paths, Outer>
+        ensures { IfOk result (IsListing folder.now) }
+    {
+        listing(files_below(&self.rt, self.folder.as_str(), folder)?, folder)
+    }
+
+    fn read(&self, alloc: Global, file: &Path, most: u64) -> Result<Option<Vec<u8>>, Outer>
+        ensures { IfOk result (λ found. IfSome found (λ bytes. vec_len bytes ≤ most)) }
+    {
+        let place = place(alloc, self.folder.as_str(), file.text().as_str())?;
+        first_bytes(&self.rt, place.as_str(), most)
+    }
+}
+
+impl<R: Files + Processes + AllocGlobal + Clone + Drop> Room for DirRoom<R> {
+    ghost use Rattle.std.specs.FinMap.{empty};
+
+    type Ways = Untold;
+
+    ghost folder = { λ _. empty };
+
+    ghost begun = { λ s. s.begun.items };
+
+    ghost faults = { λ s. s.faults };
+
+    fn clear(&mut self, alloc: Global, name: &Text) -> Result<(), Outer> {
+        self.begun.push(name.copy(alloc)?)?;
+        let emptied = self.empty(alloc);
+        noted(&mut self.faults, emptied)
+    }
+
+    fn put(&mut self, alloc: Global, path: &Path, bytes: &[u8]) -> Result<(), Outer> {
+        let written = self.write(alloc, path, bytes);
+        noted(&mut self.faults, written)
+    }
+
+    fn run(&mut self, alloc: Global, words: &[Text]) -> Result<u8, Outer> {
+        let status = self.status(alloc, words);
+        noted(&mut self.faults, status)
+    }
+
+    fn names(&mut self, _alloc: Global, below: &Path) -> Result<Paths, Outer> {
+        let listed = self.listed(below);
+        noted(&mut self.faults, listed)
+    }
+
+    fn take(&mut self, alloc: Global, file: &Path, most: u64) -> Result<Option<Vec<u8>>, Outer> {
+        let read = self.read(alloc, file, most);
+        noted(&mut self.faults, read)
+    }
+}
