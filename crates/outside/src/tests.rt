@@ -56,10 +56,19 @@ fn holds(found: Option<Vec<u8>>, bytes: &str) -> bool {
 
 /// Whether these are the paths.
 fn are(paths: &Paths, wanted: &[&str]) -> bool {
-    paths.len() == wanted.len() && paths.iter().zip(wanted).all(|(path, want)| path.bytes() == want.as_bytes())
+    paths.len() == wanted.len()
+        && paths
+            .iter()
+            .zip(wanted)
+            .all(|(path, want)| path.bytes() == want.as_bytes())
 }
 
-fn tree_names(alloc: Global, tree: &mut MemTree, folder: &str, wanted: &[&str]) -> Result<bool, test::Fail> {
+fn tree_names(
+    alloc: Global,
+    tree: &mut MemTree,
+    folder: &str,
+    wanted: &[&str],
+) -> Result<bool, test::Fail> {
     let names = tree.names(alloc, &path(alloc, folder)?)?;
     Ok(are(&names, wanted))
 }
@@ -68,23 +77,41 @@ fn tree_fails(alloc: Global, tree: &mut MemTree, folder: &str) -> Result<bool, t
     Ok(matches!(tree.names(alloc, &path(alloc, folder)?), Err(Outer::Fault)))
 }
 
-fn tree_holds(alloc: Global, tree: &mut MemTree, file: &str, most: u64, bytes: &str) -> Result<bool, test::Fail> {
+fn tree_holds(
+    alloc: Global,
+    tree: &mut MemTree,
+    file: &str,
+    most: u64,
+    bytes: &str,
+) -> Result<bool, test::Fail> {
     Ok(holds(tree.bytes(alloc, &path(alloc, file)?, most)?, bytes))
 }
 
 #[test]
 fn tree(rt: HostRuntime) -> Result<(), test::Fail> {
     let alloc = rt.alloc();
-    let handed = files(alloc, &[("a/x", "old"), ("b/y", "1"), ("a/x", "hello"), ("a-b", "2"), ("a/w", "3")])?;
-    let mut tree = MemTree::new(alloc, handed, failing(alloc, CallKind::Names, 2)?)?;
+    let handed = files(
+        alloc,
+        &[("a/x", "old"), ("a/x", "hello"), ("a-b", "2"), ("a/w", "3")],
+    )?;
+    let mut tree = MemTree::new(alloc, handed, Sequence::new(alloc))?;
     assert!(rt; tree_names(alloc, &mut tree, "a", &["a/w", "a/x"])?);
-    assert!(rt; tree_fails(alloc, &mut tree, "a")?);
-    assert!(rt; tree_names(alloc, &mut tree, "b", &["b/y"])?);
-    assert_eq!(rt; tree.faults(), 1);
-    for (file, most, bytes) in [("a/x", 9, "hello"), ("a/x", 3, "hel"), ("a/x", 0, ""), ("a-b", 1, "2")] {
-        assert!(rt; tree_holds(alloc, &mut tree, file, most, bytes)?, "{file}");
-    }
+    assert!(rt; tree_holds(alloc, &mut tree, "a/x", 3, "hel")?);
     assert!(rt; !tree_holds(alloc, &mut tree, "a", 9, "")?);
+    Ok(())
+}
+
+#[test]
+fn failing_tree(rt: HostRuntime) -> Result<(), test::Fail> {
+    let alloc = rt.alloc();
+    let mut tree = MemTree::new(
+        alloc,
+        Sequence::new(alloc),
+        failing(alloc, CallKind::Names, 2)?,
+    )?;
+    assert!(rt; tree_names(alloc, &mut tree, "a", &[])?);
+    assert!(rt; tree_fails(alloc, &mut tree, "a")?);
+    assert_eq!(rt; tree.faults(), 1);
     Ok(())
 }
 
@@ -100,20 +127,43 @@ fn is_refused_for(made: Result<MemTree, MemError>, folder: &str) -> bool {
 #[test]
 fn folders_of_a_tree(rt: HostRuntime) -> Result<(), test::Fail> {
     let alloc = rt.alloc();
-    let handed = files(alloc, &[("b/c", ""), ("b", ""), ("a/x/y", ""), ("a/x", ""), ("a.x", ""), ("aa/x", "")])?;
+    let handed = files(
+        alloc,
+        &[
+            ("b/c", ""),
+            ("b", ""),
+            ("a/x/y", ""),
+            ("a/x", ""),
+            ("a.x", ""),
+        ],
+    )?;
     assert!(rt; is_refused_for(MemTree::new(alloc, handed, Sequence::new(alloc)), "a/x"));
     Ok(())
 }
 
-fn store_put(alloc: Global, store: &mut MemStore, name: &str, bytes: &str) -> Result<bool, test::Fail> {
-    Ok(store.put(alloc, &text(alloc, name)?, bytes.as_bytes()).is_ok())
+fn store_put(
+    alloc: Global,
+    store: &mut MemStore,
+    name: &str,
+    bytes: &str,
+) -> Result<bool, test::Fail> {
+    Ok(
+        store
+            .put(alloc, &text(alloc, name)?, bytes.as_bytes())
+            .is_ok(),
+    )
 }
 
 fn store_remove(alloc: Global, store: &mut MemStore, name: &str) -> Result<bool, test::Fail> {
     Ok(store.remove(alloc, &text(alloc, name)?).is_ok())
 }
 
-fn store_holds(alloc: Global, store: &mut MemStore, name: &str, bytes: &str) -> Result<bool, test::Fail> {
+fn store_holds(
+    alloc: Global,
+    store: &mut MemStore,
+    name: &str,
+    bytes: &str,
+) -> Result<bool, test::Fail> {
     Ok(holds(store.get(alloc, &text(alloc, name)?, 9)?, bytes))
 }
 
@@ -121,16 +171,27 @@ fn store_holds(alloc: Global, store: &mut MemStore, name: &str, bytes: &str) -> 
 fn store(rt: HostRuntime) -> Result<(), test::Fail> {
     let alloc = rt.alloc();
     let handed = items(alloc, &[("x", "1"), ("y", "2"), ("x", "3")])?;
-    let mut store = MemStore::new(alloc, handed, failing(alloc, CallKind::Put, 1)?)?;
-    assert!(rt; !store_put(alloc, &mut store, "x", "4")?);
+    let mut store = MemStore::new(alloc, handed, Sequence::new(alloc))?;
+    assert!(rt; store_remove(alloc, &mut store, "y")?);
+    assert!(rt; store_remove(alloc, &mut store, "absent")?);
     assert!(rt; store_holds(alloc, &mut store, "x", "3")?);
-    assert_eq!(rt; store.journal().len(), 0);
+    assert_eq!(rt; store.names(alloc)?.len(), 1);
+    assert_eq!(rt; store.journal().len(), 1);
+    Ok(())
+}
+
+#[test]
+fn failing_store(rt: HostRuntime) -> Result<(), test::Fail> {
+    let alloc = rt.alloc();
+    let mut store = MemStore::new(
+        alloc,
+        Sequence::new(alloc),
+        failing(alloc, CallKind::Put, 1)?,
+    )?;
+    assert!(rt; !store_put(alloc, &mut store, "x", "4")?);
+    assert!(rt; !store_holds(alloc, &mut store, "x", "4")?);
     assert!(rt; store_put(alloc, &mut store, "x", "4")?);
     assert!(rt; store_holds(alloc, &mut store, "x", "4")?);
-    assert!(rt; store_remove(alloc, &mut store, "absent")?);
-    assert!(rt; store_remove(alloc, &mut store, "x")?);
-    assert!(rt; matches!(store.journal(), [Change::Put { .. }, Change::Remove { .. }]));
-    assert_eq!(rt; store.names(alloc)?.len(), 1);
     assert_eq!(rt; store.faults(), 1);
     Ok(())
 }
@@ -155,36 +216,46 @@ fn room_clear(alloc: Global, room: &mut MemRoom, name: &str) -> Result<bool, tes
     Ok(room.clear(alloc, &text(alloc, name)?).is_ok())
 }
 
-fn room_holds(alloc: Global, room: &mut MemRoom, file: &str, bytes: &str) -> Result<bool, test::Fail> {
+fn room_holds(
+    alloc: Global,
+    room: &mut MemRoom,
+    file: &str,
+    bytes: &str,
+) -> Result<bool, test::Fail> {
     Ok(holds(room.take(alloc, &path(alloc, file)?, 99)?, bytes))
 }
 
-fn room_names(alloc: Global, room: &mut MemRoom, folder: &str, wanted: &[&str]) -> Result<bool, test::Fail> {
+fn room_names(
+    alloc: Global,
+    room: &mut MemRoom,
+    folder: &str,
+    wanted: &[&str],
+) -> Result<bool, test::Fail> {
     let names = room.names(alloc, &path(alloc, folder)?)?;
     Ok(are(&names, wanted))
 }
 
 /// Begins a build in a room with one file.
-fn begin(alloc: Global, room: &mut MemRoom, name: &str, file: &str, bytes: &str) -> Result<(), test::Fail> {
-    let name = text(alloc, name)?;
-    let file = path(alloc, file)?;
-    room.clear(alloc, &name)?;
-    room.put(alloc, &file, bytes.as_bytes())?;
-    Ok(())
+fn begin(alloc: Global, room: &mut MemRoom, name: &Text, file: &Path) -> Result<(), Outer> {
+    room.clear(alloc, name)?;
+    room.put(alloc, file, b"hello")
 }
 
 #[test]
 fn room(rt: HostRuntime) -> Result<(), test::Fail> {
     let alloc = rt.alloc();
     let mut room = MemRoom::new(alloc, failing(alloc, CallKind::Clear, 2)?)?;
-    begin(alloc, &mut room, "x-1.0", "files/hello", "hello")?;
+    begin(
+        alloc,
+        &mut room,
+        &text(alloc, "x-1.0")?,
+        &path(alloc, "files/hello")?,
+    )?;
     assert!(rt; !room_clear(alloc, &mut room, "y-1.0")?);
     assert!(rt; room_holds(alloc, &mut room, "files/hello", "hello")?);
-    assert!(rt; room_names(alloc, &mut room, "files", &["files/hello"])?);
     assert_eq!(rt; room.begun().len(), 1);
     assert!(rt; room_clear(alloc, &mut room, "z-1.0")?);
     assert!(rt; room_names(alloc, &mut room, "files", &[])?);
-    assert_eq!(rt; room.begun().len(), 2);
     assert_eq!(rt; room.faults(), 1);
     Ok(())
 }
@@ -198,56 +269,87 @@ fn status(alloc: Global, room: &mut MemRoom, line: &str) -> Result<u8, test::Fai
     Ok(room.run(alloc, words.as_slice())?)
 }
 
-/// Commands in their order, with their status.
-const COMMANDS: [(&str, u8); 30] = [
-    ("true", 0),
-    ("true x", 2),
-    ("false", 1),
-    ("false x", 2),
-    ("exit 0", 0),
-    ("exit 255", 255),
-    ("exit 256", 2),
-    ("exit 03", 2),
-    ("exit", 2),
-    ("exit 1 2", 2),
-    ("put a/b one two", 0),
-    ("put a/b", 2),
-    ("put ../a one", 2),
-    ("put a one", 1),
-    ("put a/b/c one", 1),
-    ("put a-b three", 0),
-    ("cp a/b a/c", 0),
-    ("cp absent a/d", 1),
-    ("cp absent /d", 2),
-    ("cp /d a/d", 2),
-    ("cp a/b a", 1),
-    ("cp a/b", 2),
-    ("put a/c replaced", 0),
-    ("list a/list a", 0),
-    ("list a/b/list a", 1),
-    ("list a/list /", 2),
-    ("list a/list", 2),
-    ("list empty none", 0),
-    ("rm a/b", 127),
-    ("True", 127),
-];
+/// Whether the commands, one after another in a new room, have these statuses and leave this file.
+fn ends(
+    alloc: Global,
+    commands: &[(&str, u8)],
+    file: &str,
+    bytes: &str,
+) -> Result<bool, test::Fail> {
+    let mut room = MemRoom::new(alloc, Sequence::new(alloc))?;
+    for (line, wanted) in commands {
+        if status(alloc, &mut room, line)? != *wanted {
+            return Ok(false);
+        }
+    }
+    room_holds(alloc, &mut room, file, bytes)
+}
 
 #[test]
-fn programs(rt: HostRuntime) -> Result<(), test::Fail> {
+fn statuses(rt: HostRuntime) -> Result<(), test::Fail> {
     let alloc = rt.alloc();
-    let mut room = MemRoom::new(alloc, Sequence::new(alloc))?;
-    for (line, wanted) in COMMANDS {
-        assert_eq!(rt; status(alloc, &mut room, line)?, wanted, "{line}");
-    }
-    for (file, bytes) in [
-        ("a/b", "one two\n"),
-        ("a/c", "replaced\n"),
-        ("a-b", "three\n"),
-        ("a/list", "a/b\na/c\n"),
-        ("empty", ""),
-    ] {
-        assert!(rt; room_holds(alloc, &mut room, file, bytes)?, "{file}");
-    }
-    assert!(rt; room_names(alloc, &mut room, "a", &["a/b", "a/c", "a/list"])?);
+    let commands = &[
+        ("true", 0),
+        ("true x", 2),
+        ("false", 1),
+        ("false x", 2),
+        ("rm a", 127),
+        ("put a b", 0),
+    ];
+    assert!(rt; ends(alloc, commands, "a", "b\n")?);
+    let commands = &[
+        ("exit 0", 0),
+        ("exit 255", 255),
+        ("exit 256", 2),
+        ("exit 03", 2),
+        ("exit", 2),
+        ("put a b", 0),
+    ];
+    assert!(rt; ends(alloc, commands, "a", "b\n")?);
+    Ok(())
+}
+
+#[test]
+fn puts(rt: HostRuntime) -> Result<(), test::Fail> {
+    let alloc = rt.alloc();
+    let commands = &[
+        ("put a/b one two", 0),
+        ("put a/b", 2),
+        ("put ../a x", 2),
+        ("put a x", 1),
+        ("put a/b/c x", 1),
+    ];
+    assert!(rt; ends(alloc, commands, "a/b", "one two\n")?);
+    let commands = &[("put a/b one two", 0), ("put a/b three", 0)];
+    assert!(rt; ends(alloc, commands, "a/b", "three\n")?);
+    Ok(())
+}
+
+#[test]
+fn copies(rt: HostRuntime) -> Result<(), test::Fail> {
+    let alloc = rt.alloc();
+    let commands = &[
+        ("put a/b x", 0),
+        ("cp a/b c", 0),
+        ("cp d e", 1),
+        ("cp d /e", 2),
+        ("cp a/b a", 1),
+        ("cp c", 2),
+    ];
+    assert!(rt; ends(alloc, commands, "c", "x\n")?);
+    Ok(())
+}
+
+#[test]
+fn lists(rt: HostRuntime) -> Result<(), test::Fail> {
+    let alloc = rt.alloc();
+    let commands = &[
+        ("put a/b x", 0),
+        ("put a-b x", 0),
+        ("put a/a x", 0),
+        ("list a/c a", 0),
+        ("list a/c /", 2),
+    ];
+    assert!(rt; ends(alloc, commands, "a/c", "a/a\na/b\n")?);
     Ok(())
 }
