@@ -26,7 +26,13 @@ pub trait Baking {
     ghost faults: { Self → ℕ };
 
     /// Builds a job over a base root and the packages that are installed for it.
-    fn bake(&mut self, alloc: Global, base: &Files, job: &Job, packages: &[Shared<Package>]) -> Result<Outcome, Outer>
+    fn bake(
+        &mut self,
+        alloc: Global,
+        base: &Files,
+        job: &Job,
+        packages: &[Shared<Package>],
+    ) -> Result<Outcome, Outer>
         requires { IsBase base.now }
         ensures told { IsTrue Self.Ways.tells → IfOk result (λ outcome. outcome ≡ bake Self.Ways.runs base.now job.now packages.now) }
         ensures fields { IfOk result (IsOutcomeOf job.now) }

@@ -51,7 +51,10 @@ pub fn weight(built: &Package) -> u64
     for file in built.files.as_slice() {
         let bytes = file.bytes.len() as u64;
         let path = file.path.bytes().len() as u64;
-        sum = sum.saturating_add(bytes).saturating_add(path).saturating_add(16);
+        sum = sum
+            .saturating_add(bytes)
+            .saturating_add(path)
+            .saturating_add(16);
     }
     sum
 }

@@ -31,5 +31,5 @@ IsJob-first job word name o form f options depends files = record {
   flavor = subst (λ (v : Option (List ℕ)). IfSome v (λ g. IsTrue (is_flavor g))) (sym f) tt;
   options = no_options job.options options;
   depends = no_depends job.depends depends;
-  files = files
+  files = files;
 }

@@ -37,8 +37,9 @@ longer n m l = grind (arith, nat_tests)
 
 pub read_first_bytes : (bytes : List ℕ) → read_port_file (take 65537 bytes) ≡ read_port_file bytes
 read_first_bytes bytes = elim (cases_lt 65536 (length bytes)) [
-    inl l ↦ long_has_no_form (take 65537 bytes) (longer (length (take 65537 bytes)) 65536 (omega (arith, length-take 65537 bytes))) ∙ sym (long_has_no_form bytes (longer (length bytes) 65536 l))
-  | inr g ↦ ap read_port_file (take_all 65537 bytes (omega arith)) ]
+  | inl l ↦ long_has_no_form (take 65537 bytes) (longer (length (take 65537 bytes)) 65536 (omega (arith, length-take 65537 bytes))) ∙ sym (long_has_no_form bytes (longer (length bytes) 65536 l))
+  | inr g ↦ ap read_port_file (take_all 65537 bytes (omega arith))
+]
 
 pub read_as_held : (bytes : List ℕ) (held : Option (List ℕ)) → Some bytes ≡ option_map (take 65537) held → Some (read_port_file bytes) ≡ option_map read_port_file held
 read_as_held bytes None e = absurd (cc)
@@ -78,6 +79,7 @@ by_files content word file (NotServed path) o e h =
 by_files content word file (NoPort name) o e h =
     origin_known content word o ∙ (present read_port_file (refusal_by_file content word) (NoOrigin word) (get content (port_vars word)) (Some file) e).0 ∙ h
 by_files content word file (Port job) o e h =
-    let p = present read_port_file (refusal_by_file content word) (NoOrigin word) (get content (port_vars word)) (Some file) e in
-    (origin_known content word o ∙ p.0 ∙ ap (option_map NotYet) h.0,
-     ap (option_map (λ f. job_of word f (files_in (files_folder word) content))) p.1 ∙ ap Some (sym h.1))
+    let p = present read_port_file (refusal_by_file content word) (NoOrigin word) (get content (port_vars word)) (Some file) e in (
+      origin_known content word o ∙ p.0 ∙ ap (option_map NotYet) h.0,
+      ap (option_map (λ f. job_of word f (files_in (files_folder word) content))) p.1 ∙ ap Some (sym h.1),
+    )

@@ -1,6 +1,5 @@
 pub mod Origins
 pub mod Places
-
 pub mod PathLists
 pub mod Placed
 pub mod FolderNames

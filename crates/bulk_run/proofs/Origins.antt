@@ -48,8 +48,9 @@ no_name {name} h e = true≢false (sym h ∙ ap is_port_name e)
 
 has_slash : (word : List ℕ) → is_origin_word word ≡ true → position_or_len is_slash word < length word
 has_slash word h = elim (cases_lt (position_or_len is_slash word) (length word)) [
-    inl l ↦ l
-  | inr g ↦ absurd (no_name (back_name (before_first is_slash word) (after_first is_slash word) h) (drop_all (position_or_len is_slash word + 1) word (omega arith))) ]
+  | inl l ↦ l
+  | inr g ↦ absurd (no_name (back_name (before_first is_slash word) (after_first is_slash word) h) (drop_all (position_or_len is_slash word + 1) word (omega arith)))
+]
 
 slash_there : (word : List ℕ) → position_or_len is_slash word < length word → get_or word (position_or_len is_slash word) 0 ≡ 47
 slash_there word l = eqb-true (get_or word (position_or_len is_slash word) 0) 47 (passes_at_first is_slash word 0 l)
@@ -69,7 +70,7 @@ origin_is_path word h =
     let front_form : is_port_name (before_first is_slash word) ≡ true = front_name (before_first is_slash word) (after_first is_slash word) h in
     let back_form : is_port_name (after_first is_slash word) ≡ true = back_name (before_first is_slash word) (after_first is_slash word) h in
     let size : length word ≡ length (before_first is_slash word) + (1 + length (after_first is_slash word)) =
-      ap length (split_at_first is_slash word 0 l) ∙ length-append (before_first is_slash word) _ ∙ omega arith in
+    ap length (split_at_first is_slash word 0 l) ∙ length-append (before_first is_slash word) _ ∙ omega arith in
     let short : length word ≤ 129 = omega (arith, short_name (before_first is_slash word) front_form, short_name (after_first is_slash word) back_form) in
     let good : list_all is_part (parts word) ≡ true = ap (list_all is_part) (slice_split_first is_slash word 0 l) ∙ two_parts (before_first is_slash word) (after_first is_slash word) front_form back_form in
     (path_by_parts word short good, short)
@@ -86,5 +87,5 @@ origin_form word h =
       port = after_first is_slash word;
       category_form = front_name (before_first is_slash word) (after_first is_slash word) h;
       port_form = back_name (before_first is_slash word) (after_first is_slash word) h;
-      spelled = split_at_first is_slash word 0 l ∙ ap (λ b. before_first is_slash word ++ b ∷ after_first is_slash word) (slash_there word l)
+      spelled = split_at_first is_slash word 0 l ∙ ap (λ b. before_first is_slash word ++ b ∷ after_first is_slash word) (slash_there word l);
     }

@@ -86,9 +86,10 @@ pub whole_at_end : (before old : Contents) (folder : List ℕ) (items names : Li
     → find (is_large before) (take i items) ≡ None → files ≡ filter_map (file_at folder before) (take i items)
     → (find (is_large old) (files_below folder old) ≡ None) × (files ≡ files_in folder old)
 whole_at_end before old folder items names i files l b e n small f =
-    let all : take i items ≡ files_below folder old = take_all i items l ∙ e ∙ n in
-    (ap (λ d. find (is_large d) (files_below folder old)) (sym b) ∙ ap (find (is_large before)) (sym all) ∙ small,
-     f ∙ ap (filter_map (file_at folder before)) all ∙ ap (λ d. filter_map (file_at folder d) (files_below folder old)) b)
+    let all : take i items ≡ files_below folder old = take_all i items l ∙ e ∙ n in (
+      ap (λ d. find (is_large d) (files_below folder old)) (sym b) ∙ ap (find (is_large before)) (sym all) ∙ small,
+      f ∙ ap (filter_map (file_at folder before)) all ∙ ap (λ d. filter_map (file_at folder d) (files_below folder old)) b,
+    )
 
 -- and their form
 pub form_at_end : (folder : List ℕ) (items : List (List ℕ)) (i : ℕ) (files : List FileItem) → length items ≤ i → IsPathList (paths_of files ++ map (rest_of folder) (drop i items))

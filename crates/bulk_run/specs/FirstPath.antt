@@ -82,7 +82,7 @@ job_of word file files = record {
   options = [];
   depends = [];
   steps = record { extract = []; patch = []; configure = []; build = commands_of file.build; stage = commands_of file.stage };
-  files = files
+  files = files;
 }
 
 -- the tree's refusal of a word, if any, from the port's file

@@ -74,7 +74,12 @@ fn check_store<S: Store>(alloc: Global, store: &mut S) -> Result<(), Answer>
 }
 
 /// What a command asks for: the job of the wanted port, or the first refusal.
-pub(crate) fn decide<T: Tree, S: Store>(alloc: Global, words: &[Text], tree: &mut T, store: &mut S) -> Result<Job, Answer>
+pub(crate) fn decide<T: Tree, S: Store>(
+    alloc: Global,
+    words: &[Text],
+    tree: &mut T,
+    store: &mut S,
+) -> Result<Job, Answer>
     ensures told { IsTrue T.tells → IsTrue S.tells → Decides (refusal words.now (T.content tree.old) (S.content store.old)) result }
     ensures job { IsTrue T.tells → IfOk result (λ job. wanted_job words.now (T.content tree.old) ≡ Some job) }
     ensures tree { IsCaused (T.faults tree.old) (T.faults tree.new) (err_is blames_tree result) }

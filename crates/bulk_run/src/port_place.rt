@@ -29,7 +29,10 @@ fn has_only_port_bytes(name: &[u8]) -> bool
 fn is_port_name(name: &[u8]) -> bool
     ensures { result ≡ has_port_form name.now }
 {
-    !name.is_empty() && name.len() <= 64 && has_only_port_bytes(name) && (is_alphanumeric(name[0]) || name[0] == b'_')
+    !name.is_empty()
+        && name.len() <= 64
+        && has_only_port_bytes(name)
+        && (is_alphanumeric(name[0]) || name[0] == b'_')
 }
 
 fn slash_place(word: &[u8]) -> usize
@@ -63,7 +66,10 @@ impl PortPlace {
         ensures vars { IfOk result (λ place. place.vars ≡ port_vars origin.now) }
         ensures files { IfOk result (λ place. place.files ≡ files_folder origin.now) }
     {
-        let folder = Path::literal(alloc, b"ports")?.join_short(alloc, &Path::of_text(alloc, origin)?)?;
+        let folder = Path::literal(alloc, b"ports")?.join_short(
+            alloc,
+            &Path::of_text(alloc, origin)?,
+        )?;
         Ok(PortPlace {
             vars: folder.join_short(alloc, &Path::literal(alloc, b"port.vars")?)?,
             files: folder.join_short(alloc, &Path::literal(alloc, b"files")?)?,

@@ -76,7 +76,12 @@ fn port_report(alloc: Global, job: &Job, outcome: &Outcome) -> Result<Report, An
 }
 
 /// Builds one port in the room, stores its package and says so.
-pub(crate) fn run_port<S: Store, R: Room>(alloc: Global, store: &mut S, room: &mut R, job: &Job) -> Result<Report, Answer>
+pub(crate) fn run_port<S: Store, R: Room>(
+    alloc: Global,
+    store: &mut S,
+    room: &mut R,
+    job: &Job,
+) -> Result<Report, Answer>
     ensures tree { err_is blames_tree result ≡ false }
     ensures store { IsCaused (S.faults store.old) (S.faults store.new) (err_is blames_store result) }
     ensures room { IsCaused (R.faults room.old) (R.faults room.new) (err_is blames_room result) }

@@ -28,7 +28,10 @@ fn package_file_among(names: &[Text]) -> Option<&Text>
 }
 
 /// The first name of a package file in the store.
-pub(crate) fn first_package_file<S: Store>(alloc: Global, store: &mut S) -> Result<Option<Text>, Outer>
+pub(crate) fn first_package_file<S: Store>(
+    alloc: Global,
+    store: &mut S,
+) -> Result<Option<Text>, Outer>
     ensures told { IsTrue S.tells → IfOk result (λ found. found ≡ find is_package_file_of (keys (S.content store.old))) }
     ensures same { IsUnchanged (S.content store.old) (S.content store.new) (S.journal store.old) (S.journal store.new) }
     ensures cause { HasCause (S.faults store.old) (S.faults store.new) result }

@@ -56,7 +56,12 @@ fn path_in_folder(alloc: Global, folder: &Path, path: &Path) -> Result<Path, NoM
 }
 
 // A file below a folder, under the path that it has there, if it is there; None where it is too large.
-fn take_file<T: Tree>(alloc: Global, tree: &mut T, folder: &Path, path: &Path) -> Result<Option<Option<FileItem>>, Outer>
+fn take_file<T: Tree>(
+    alloc: Global,
+    tree: &mut T,
+    folder: &Path,
+    path: &Path,
+) -> Result<Option<Option<FileItem>>, Outer>
     requires long { 4 ≤ length folder.now }
     requires below { IsTrue (is_below folder.now path.now) }
     ensures told { IsTrue T.tells → IfOk result (IsTaken folder.now (T.content tree.old) path.now) }
@@ -80,7 +85,11 @@ fn take_file<T: Tree>(alloc: Global, tree: &mut T, folder: &Path, path: &Path) -
 }
 
 /// The files below a folder of the tree, up to the first that is too large.
-pub(crate) fn read_files<T: Tree>(alloc: Global, tree: &mut T, folder: &Path) -> Result<PortFiles, Outer>
+pub(crate) fn read_files<T: Tree>(
+    alloc: Global,
+    tree: &mut T,
+    folder: &Path,
+) -> Result<PortFiles, Outer>
     requires { 4 ≤ length folder.now }
     ensures told { IsTrue T.tells → IfOk result (AreTaken folder.now (T.content tree.old)) }
     ensures form { IfOk result AreInForm }
@@ -122,7 +131,13 @@ fn port_job(alloc: Global, word: &Text, file: &PortFile, files: Files) -> Result
     })
 }
 
-fn with_files<T: Tree>(alloc: Global, tree: &mut T, word: &Text, folder: &Path, file: &PortFile) -> Result<Found, Outer>
+fn with_files<T: Tree>(
+    alloc: Global,
+    tree: &mut T,
+    word: &Text,
+    folder: &Path,
+    file: &PortFile,
+) -> Result<Found, Outer>
     requires origin { IsTrue (has_origin_form word.now) }
     requires folder { folder.now ≡ files_folder word.now }
     ensures told { IsTrue T.tells → IfOk result (IsFoundInFiles (T.content tree.old) word.now file.now) }
@@ -136,7 +151,11 @@ fn with_files<T: Tree>(alloc: Global, tree: &mut T, word: &Text, folder: &Path, 
 }
 
 // What the port's description says: None where there is none.
-fn read_vars<T: Tree>(alloc: Global, tree: &mut T, vars: &Path) -> Result<Option<Option<PortFile>>, Outer>
+fn read_vars<T: Tree>(
+    alloc: Global,
+    tree: &mut T,
+    vars: &Path,
+) -> Result<Option<Option<PortFile>>, Outer>
     ensures told { IsTrue T.tells → IfOk result (λ read. read ≡ option_map read_port_form (get (T.content tree.old) vars.now)) }
     ensures same { T.content tree.new ≡ T.content tree.old }
     ensures cause { HasCause (T.faults tree.old) (T.faults tree.new) result }

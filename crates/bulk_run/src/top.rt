@@ -6,15 +6,21 @@ ghost use Rattle.bulk_run.specs.Decided.{IsInner};
 
 use crate::answer::{Answer, Closed, Finished};
 use crate::decision::{decide, is_command};
-use crate::refusal::refuse;
 use crate::port_run::{Report, run_port};
+use crate::refusal::refuse;
 use bulk_base::Text;
 use outside::{Gate, Outer, Room, Sink, Store, Tree};
 use std::alloc::Global;
 use std::sync::Wait;
 use std::thread::Threads;
 
-fn run<T: Tree, S: Store, R: Room>(alloc: Global, words: &[Text], tree: &mut T, store: &mut S, room: &mut R) -> Result<Report, Answer>
+fn run<T: Tree, S: Store, R: Room>(
+    alloc: Global,
+    words: &[Text],
+    tree: &mut T,
+    store: &mut S,
+    room: &mut R,
+) -> Result<Report, Answer>
     ensures tree { IsCaused (T.faults tree.old) (T.faults tree.new) (err_is blames_tree result) }
     ensures store { IsCaused (S.faults store.old) (S.faults store.new) (err_is blames_store result) }
     ensures room { IsCaused (R.faults room.old) (R.faults room.new) (err_is blames_room result) }
@@ -69,7 +75,14 @@ fn without_rooms<K: Sink>(alloc: Global, words: &[Text], out: &mut K) -> Closed
 /// Runs a command over a tree, a store and rooms, and prints to a sink.
 ///
 /// The store and the rooms come back, the rooms in their order.
-pub fn poudriere<W: Threads + Wait + Sync, T: Tree, S: Store + Send, R: Room + Send, G: Gate + Sync, K: Sink>(
+pub fn poudriere<
+    W: Threads + Wait + Sync,
+    T: Tree,
+    S: Store + Send,
+    R: Room + Send,
+    G: Gate + Sync,
+    K: Sink,
+>(
     _rt: &W,
     alloc: Global,
     words: &[Text],

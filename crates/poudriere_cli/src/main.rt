@@ -19,8 +19,9 @@ use crate::dir_store::DirStore;
 use crate::dir_tree::DirTree;
 use crate::out_sink::OutSink;
 use crate::words::{WordsError, command_words};
-use bulk_base::{NoMemory, Text};
-use outside::{Gate, OpenGate, Room, Sink, Store, Tree};
+use bulk_base::NoMemory;
+use bulk_run::Finished;
+use outside::{OpenGate, Sink};
 use std::alloc::Global;
 use std::process::ExitCode;
 
@@ -69,23 +70,6 @@ fn print<K: Sink>(alloc: Global, out: &mut K, line: &str) {
     let _ = out.write(alloc, line.as_bytes());
 }
 
-/// Stands where the builder's top call is to stand.
-fn poudriere<T: Tree, S: Store + Send, R: Room + Send, G: Gate + Sync, K: Sink>(
-    alloc: Global,
-    _words: &[Text],
-    _tree: &mut T,
-    store: S,
-    rooms: Vec<R>,
-    _gate: &G,
-    out: &mut K,
-) -> (u8, S, Vec<R>)
-where
-    R::Ways: Send + Sync,
-{
-    print(alloc, out, USAGE);
-    (USAGE_STATUS, store, rooms)
-}
-
 fn main(rt: HostRuntime) -> ExitCode {
     let alloc = rt.alloc();
     let mut out = OutSink::new(rt.stdout());
@@ -109,7 +93,13 @@ fn main(rt: HostRuntime) -> ExitCode {
         store,
         rooms,
     } = outside;
-    let (status, _store, _rooms) = poudriere(
+    let Finished {
+        status,
+        answer: _,
+        store: _,
+        rooms: _,
+    } = bulk_run::poudriere(
+        &rt,
         alloc,
         words.as_slice(),
         &mut tree,

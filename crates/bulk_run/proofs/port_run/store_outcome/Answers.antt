@@ -17,4 +17,4 @@ pub returns-in-Err-Fault-clause-told : goal.returns-in-Err-Fault-clause-told
 returns-in-Err-Fault-clause-told g c t =
     made_or_not _ (g.S.Store.content c.args.store.now) (g.S.Store.content c.save.new.store) _ _ (Unit {0}) _ _ c.in-Err-Fault.field-0-is (c.in-Err-Fault.ensures.told t)
     (ap (λ (p : PackageView). insert (g.S.Store.content c.args.store.now) (package_file p.name) (spelling p)) c.get.ensures
-      ∙ ap (λ o. stored o (g.S.Store.content c.args.store.now)) (sym c.in-Built.is))
+    ∙ ap (λ o. stored o (g.S.Store.content c.args.store.now)) (sym c.in-Built.is))

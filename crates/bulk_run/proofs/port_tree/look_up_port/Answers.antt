@@ -15,6 +15,6 @@ returns-clause-told g c t =
     let read : c.in_ok-read_vars.field-0 ≡ Some (Some c.in-Some-Some.file) = cc in
     IfOk-weaker c.with_files.result (IsFoundInFiles (g.T.Tree.content c.read_vars.new.tree) c.args.word.now c.in-Some-Some.file) (IsFoundByPort (g.T.Tree.content c.args.tree.now) c.args.word.now)
     (λ found h. by_files (g.T.Tree.content c.args.tree.now) c.args.word.now c.in-Some-Some.file found origin
-      (sym read ∙ c.in_ok-read_vars.ensures.told t ∙ ap (λ v. option_map read_port_file (get (g.T.Tree.content c.args.tree.now) v)) c.in_ok-place.ensures.vars)
-      (subst (λ m. IsFoundInFiles m c.args.word.now c.in-Some-Some.file found) c.in_ok-read_vars.ensures.same h))
+    (sym read ∙ c.in_ok-read_vars.ensures.told t ∙ ap (λ v. option_map read_port_file (get (g.T.Tree.content c.args.tree.now) v)) c.in_ok-place.ensures.vars)
+    (subst (λ m. IsFoundInFiles m c.args.word.now c.in-Some-Some.file found) c.in_ok-read_vars.ensures.same h))
     (c.with_files.ensures.told t)

@@ -14,5 +14,5 @@ invariant-loop-path g l = record {
   form : IsPathList (paths_of l.files ++ map (rest_of l.folder) (drop l.path-index l.path-items));
   short : list_all (λ path. nat_le (length path) 1019) (paths_of l.files) ≡ true;
   same : g.T.Tree.content l.tree ≡ g.T.Tree.content l.initial.tree;
-  quiet : g.T.Tree.faults l.tree ≡ g.T.Tree.faults l.initial.tree
+  quiet : g.T.Tree.faults l.tree ≡ g.T.Tree.faults l.initial.tree;
 }

@@ -18,5 +18,5 @@ returns-in-None-clause-told g c t =
 pub returns-in_ok-path_in_folder-in-Some-clause-told : goal.returns-in_ok-path_in_folder-in-Some-clause-told
 returns-in_ok-path_in_folder-in-Some-clause-told g c t =
     let held = whole 4194304 _ c.in-Some.bytes.items (get (g.T.Tree.content c.args.tree.now) c.args.path.now)
-      (ap (option_map (λ (b : Vec ℕ Global). b.items)) (sym c.in-Some.is) ∙ c.in_ok-bytes.ensures.told t) (omega arith) in
+    (ap (option_map (λ (b : Vec ℕ Global). b.items)) (sym c.in-Some.is) ∙ c.in_ok-bytes.ensures.told t) (omega arith) in
     (held.0, (λ k. Some (record { path = c.in_ok-path_in_folder-in-Some.ensures.path k; bytes = c.from_vec.ensures k })) ∙ held.1)
