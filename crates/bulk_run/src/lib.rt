@@ -18,6 +18,8 @@ mod record_writer;
 mod refusal;
 mod room_build;
 mod staging;
+#[cfg(test)]
+mod tests;
 mod top;
 
 pub use answer::{Answer, Closed, Finished};

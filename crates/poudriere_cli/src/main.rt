@@ -14,6 +14,8 @@ mod tests;
 mod walk;
 mod words;
 
+ghost use Rattle.std.specs.Prelude.{◌≤◌, vec_len, IfOk};
+
 use crate::dir_room::DirRoom;
 use crate::dir_store::DirStore;
 use crate::dir_tree::DirTree;
@@ -46,7 +48,9 @@ struct Outside<'a> {
 }
 
 /// A room's folder begins with a dot, so that the shell takes it as it stands, whatever CDPATH says.
-fn rooms(rt: &HostRuntime, alloc: Global) -> Result<Vec<DirRoom<&HostRuntime>>, NoMemory> {
+fn rooms(rt: &HostRuntime, alloc: Global) -> Result<Vec<DirRoom<&HostRuntime>>, NoMemory>
+    ensures { IfOk result (λ rooms. vec_len rooms ≤ 64) }
+{
     let mut rooms = Vec::new(alloc);
     for number in 0..ROOMS {
         let folder = format!(in alloc; "./rooms/{number:02}")?;
@@ -56,7 +60,9 @@ fn rooms(rt: &HostRuntime, alloc: Global) -> Result<Vec<DirRoom<&HostRuntime>>, 
 }
 
 impl<'a> Outside<'a> {
-    fn new(rt: &'a HostRuntime, alloc: Global) -> Result<Outside<'a>, NoMemory> {
+    fn new(rt: &'a HostRuntime, alloc: Global) -> Result<Outside<'a>, NoMemory>
+        ensures { IfOk result (λ outside. vec_len outside.rooms ≤ 64) }
+    {
         Ok(Outside {
             tree: DirTree::new(rt, String::from_str(alloc, "tree")?),
             store: DirStore::new(rt, String::from_str(alloc, "packages")?),
