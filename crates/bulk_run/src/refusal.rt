@@ -34,6 +34,7 @@ pub(crate) fn refuse<K: Sink>(alloc: Global, out: &mut K, answer: Answer) -> Clo
     ensures sink { answer ≡ Answer.SinkFault → result.answer ≡ Answer.SinkFault }
     ensures status { result.status ≡ answer_status result.answer }
     ensures later { K.faults out.old ≤ K.faults out.new }
+    ensures line { IsTrue K.tells → answer ≢ Answer.SinkFault → result.answer ≢ Answer.NoMemory → (Rose (K.faults out.old) (K.faults out.new) → ⊥) → K.written out.new ≡ K.written out.old ++ answer_line result.answer }
 {
     match say(alloc, out, &answer) {
         Err(Outer::NoMemory) => {

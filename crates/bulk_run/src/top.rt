@@ -1,5 +1,7 @@
 // The top calls.
-ghost use Rattle.std.specs.Prelude.{◌≡◌, ◌≤◌, ◌<◌, ◌^◌, ℕ, drop, vec_len, IfOk};
+ghost use Rattle.std.specs.Prelude.{◌≡◌, ◌≢◌, ◌≤◌, ◌<◌, ◌^◌, ◌++◌, ℕ, drop, vec_len, IsTrue, IfOk};
+ghost use Rattle.outside.specs.Faults.{Rose};
+ghost use Rattle.bulk_run.specs.AnswerLine.{answer_line};
 ghost use Rattle.bulk_run.specs.Ending.{GrewByOne, IsBlamed, IsStatusOf, faults_of_first, begun_in_first};
 ghost use Rattle.bulk_run.specs.Causes.{IsCaused, err_is, blames_tree, blames_store, blames_room};
 ghost use Rattle.bulk_run.specs.Decided.{IsInner};
@@ -46,6 +48,7 @@ pub fn bulk_alone<T: Tree, S: Store, R: Room, K: Sink>(
     ensures cause { IsBlamed result.answer (T.faults tree.old) (T.faults tree.new) (S.faults store.old) (S.faults store.new) (R.faults room.old) (R.faults room.new) (K.faults out.old) (K.faults out.new) }
     ensures status { IsStatusOf result.answer result.status }
     ensures begun { GrewByOne (R.begun room.old) (R.begun room.new) }
+    ensures line { IsTrue K.tells → result.answer ≢ Answer.Done → result.answer ≢ Answer.NoMemory → (Rose (K.faults out.old) (K.faults out.new) → ⊥) → K.written out.new ≡ K.written out.old ++ answer_line result.answer }
 {
     match run(alloc, words, tree, store, room) {
         Err(answer) => refuse(alloc, out, answer),
@@ -64,6 +67,7 @@ pub fn bulk_alone<T: Tree, S: Store, R: Room, K: Sink>(
 fn without_rooms<K: Sink>(alloc: Global, words: &[Text], out: &mut K) -> Closed
     ensures cause { (tb tn sb sn : ℕ) → IsBlamed result.answer tb tn sb sn 0 0 (K.faults out.old) (K.faults out.new) }
     ensures status { IsStatusOf result.answer result.status }
+    ensures line { IsTrue K.tells → result.answer ≢ Answer.Done → result.answer ≢ Answer.NoMemory → (Rose (K.faults out.old) (K.faults out.new) → ⊥) → K.written out.new ≡ K.written out.old ++ answer_line result.answer }
 {
     if is_command(words) {
         refuse(alloc, out, Answer::Builders { asked: 1, had: 0 })
@@ -100,6 +104,7 @@ where
     ensures begun { GrewByOne (begun_in_first R.begun rooms.items) (begun_in_first R.begun result.rooms.items) }
     ensures rooms { vec_len result.rooms ≡ vec_len rooms }
     ensures others { drop 1 result.rooms.items ≡ drop 1 rooms.items }
+    ensures line { IsTrue K.tells → result.answer ≢ Answer.Done → result.answer ≢ Answer.NoMemory → (Rose (K.faults out.old) (K.faults out.new) → ⊥) → K.written out.new ≡ K.written out.old ++ answer_line result.answer }
 {
     let mut store = store;
     let mut rooms = rooms;
