@@ -1,6 +1,7 @@
 -- How a run ends: what was begun, what was stored, and whom the answer blames.
 use Rattle.std.proofs.Common.{◌≡◌, ℕ, ◌≤◌, Bool, true, false, List, [], ◌∷◌, ◌++◌, ◌∙◌, ap, sym, subst, refl, inl, inr}
-use Rattle.std.specs.Prelude.{◌⊎◌, Result, Ok, Err}
+use Rattle.std.specs.Prelude.{◌⊎◌, Option, Some, None, Result, Ok, Err, unwrap_or}
+use Rattle.std.specs.Option.{is_some}
 use Rattle.outside.specs.Changes.{Made, TookEffect, IsUnchanged, changed}
 use Rattle.outside.specs.Contents.{Contents}
 use Rattle.outside.specs.Faults.{Rose}
@@ -10,8 +11,8 @@ use Rattle.outside.specs.declared.outer.Outer.{Outer}
 use Rattle.outside.specs.declared.outer.Outer.TheVariants.{Fault, NoMemory as Refused}
 use Rattle.bulk_run.specs.declared.answer.Answer.{Answer}
 use Rattle.bulk_run.specs.declared.answer.Answer.TheVariants.{Done, Usage, Builders, NotYet, NoOrigin, TreeFault, StoreFault, RoomFault, SinkFault, NoMemory}
-use Rattle.bulk_run.specs.Causes.{IsCaused, blames_tree, blames_store, blames_room}
-use Rattle.bulk_run.specs.Decided.{is_inner}
+use Rattle.bulk_run.specs.Causes.{IsCaused, is_refusal, blames_tree, blames_store, blames_room}
+use Rattle.bulk_run.specs.Decided.{is_inner, EndsAs}
 use Rattle.bulk_run.specs.Ending.{GrewByOne, IsBlamed, IsStatusOf}
 use Rattle.bulk_run.specs.AnswerLine.{answer_status}
 use mathlib.Core.Bool.{true≢false}
@@ -69,3 +70,51 @@ status_of_inner NoMemory status i h = h
 pub status_in_the_end : (answer final : Answer) (status : ℕ) → is_inner answer ≡ true → (final ≡ answer) ⊎ (final ≡ NoMemory) → status ≡ answer_status final → IsStatusOf final status
 status_in_the_end answer final status i (inl e) h = subst (λ a. IsStatusOf a status) (sym e) (status_of_inner answer status i (h ∙ ap answer_status e))
 status_in_the_end answer final status i (inr e) h = subst (λ a. IsStatusOf a status) (sym e) (h ∙ ap answer_status e)
+
+some≢none : (first : Answer) → None ≡ Some first → ⊥
+some≢none first e = true≢false (sym (ap is_some e))
+
+same_refusal : (a b : Answer) → Some a ≡ Some b → b ≡ a
+same_refusal a b e = sym (ap (λ o. unwrap_or o a) e)
+
+-- how a run ends that a decision stopped
+pub ended_by_decision : (refused : Option Answer) (answer : Answer) → (is_refusal answer ≡ true → refused ≡ Some answer) → blames_room answer ≡ false → is_inner answer ≡ true → EndsAs refused answer
+ended_by_decision None Done d r i = refl
+ended_by_decision None Usage d r i = absurd (some≢none Usage (d refl))
+ended_by_decision None (Builders asked had) d r i = absurd (some≢none (Builders asked had) (d refl))
+ended_by_decision None (NotYet path) d r i = absurd (some≢none (NotYet path) (d refl))
+ended_by_decision None (NoOrigin word) d r i = absurd (some≢none (NoOrigin word) (d refl))
+ended_by_decision None TreeFault d r i = refl
+ended_by_decision None StoreFault d r i = refl
+ended_by_decision None (RoomFault b) d r i = refl
+ended_by_decision None SinkFault d r i = refl
+ended_by_decision None NoMemory d r i = refl
+ended_by_decision (Some first) Done d r i = absurd (true≢false (sym i))
+ended_by_decision (Some first) Usage d r i = inl (same_refusal first Usage (d refl))
+ended_by_decision (Some first) (Builders asked had) d r i = inl (same_refusal first (Builders asked had) (d refl))
+ended_by_decision (Some first) (NotYet path) d r i = inl (same_refusal first (NotYet path) (d refl))
+ended_by_decision (Some first) (NoOrigin word) d r i = inl (same_refusal first (NoOrigin word) (d refl))
+ended_by_decision (Some first) TreeFault d r i = inr (inl refl)
+ended_by_decision (Some first) StoreFault d r i = inr (inr (inl refl))
+ended_by_decision (Some first) (RoomFault b) d r i = absurd (true≢false r)
+ended_by_decision (Some first) SinkFault d r i = absurd (true≢false (sym i))
+ended_by_decision (Some first) NoMemory d r i = inr (inr (inr refl))
+
+-- want of memory may stand for every end
+ended_without_memory : (refused : Option Answer) → EndsAs refused NoMemory
+ended_without_memory None = refl
+ended_without_memory (Some first) = inr (inr (inr refl))
+
+-- the same for the answer that is given in the end: that one, or want of memory
+pub ended_in_the_end : (refused : Option Answer) (answer final : Answer) → (final ≡ answer) ⊎ (final ≡ NoMemory) → EndsAs refused answer → EndsAs refused final
+ended_in_the_end refused answer final (inl e) h = subst (λ a. EndsAs refused a) (sym e) h
+ended_in_the_end refused answer final (inr e) h = subst (λ a. EndsAs refused a) (sym e) (ended_without_memory refused)
+
+-- a run that was not refused ends by no refusal
+pub ended_unrefused : (refused : Option Answer) (answer : Answer) → refused ≡ None → is_refusal answer ≡ false → EndsAs refused answer
+ended_unrefused refused answer e h = subst (λ o. EndsAs o answer) (sym e) h
+
+-- what is refused in the end was refused by the decision
+pub refused_in_the_end : (answer final : Answer) → (final ≡ answer) ⊎ (final ≡ NoMemory) → is_refusal final ≡ true → is_refusal answer ≡ true
+refused_in_the_end answer final (inl e) h = ap is_refusal (sym e) ∙ h
+refused_in_the_end answer final (inr e) h = absurd (true≢false (sym h ∙ ap is_refusal e))

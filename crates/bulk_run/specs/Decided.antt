@@ -1,8 +1,8 @@
 -- When an inner step answers a refusal.
-use Rattle.std.specs.Prelude.{◌≡◌, ◌==◌, Bool, true, false, Option, Some, None, Result, Ok, Err}
+use Rattle.std.specs.Prelude.{◌≡◌, ◌⊎◌, ◌==◌, Bool, true, false, Option, Some, None, Result, Ok, Err}
 use Rattle.bulk_run.specs.declared.answer.Answer.{Answer}
 use Rattle.bulk_run.specs.declared.answer.Answer.TheVariants.{Done, Usage, Builders, NotYet, NoOrigin, TreeFault, StoreFault, RoomFault, SinkFault, NoMemory}
-use Rattle.bulk_run.specs.Causes.{is_refusal}
+use Rattle.bulk_run.specs.Causes.{is_refusal, blames_tree, blames_store}
 
 -- a step gives its value only where nothing is refused, and a refusal only where that one is the first
 abbrev pub Decides : {X : Type 0} → Option Answer → Result X Answer → Type 0
@@ -25,3 +25,14 @@ is_inner NoMemory = true
 abbrev pub IsInner : {X : Type 0} → Result X Answer → Type 0
 IsInner (Ok x) = Unit {0}
 IsInner (Err answer) = is_inner answer ≡ true
+
+-- a run's answer against the first refusal: nothing is refused where there is none; where there is one it is answered,
+-- unless the tree or the store failed or memory was refused
+abbrev pub EndsAs : Option Answer → Answer → Type 0
+EndsAs None answer = is_refusal answer ≡ false
+EndsAs (Some first) answer = (answer ≡ first) ⊎ ((blames_tree answer ≡ true) ⊎ ((blames_store answer ≡ true) ⊎ (answer ≡ NoMemory)))
+
+-- the same of a run before it prints
+abbrev pub RunEndsAs : {X : Type 0} → Option Answer → Result X Answer → Type 0
+RunEndsAs refused (Ok x) = refused ≡ None
+RunEndsAs refused (Err answer) = EndsAs refused answer

@@ -12,7 +12,7 @@ use Rattle.bulk_model.specs.Views.{JobView, PackageView}
 use Rattle.bulk_model.specs.Files.{files_in}
 use Rattle.bulk_run.specs.PortFile.{PortFile, read_port_file}
 use Rattle.bulk_run.specs.declared.answer.Answer.{Answer}
-use Rattle.bulk_run.specs.declared.answer.Answer.TheVariants.{Usage, NotYet, NoOrigin}
+use Rattle.bulk_run.specs.declared.answer.Answer.TheVariants.{Builders, Usage, NotYet, NoOrigin}
 
 -- the command is `bulk` and one further word
 abbrev pub wanted_word : List (List ℕ) → Option (List ℕ)
@@ -117,6 +117,15 @@ store_refusal content = option_map NotYet (find is_package_file (keys content))
 abbrev pub refusal : List (List ℕ) → Contents → Contents → Option Answer
 refusal words tree store =
     option_map_or (λ word. option_or (tree_refusal tree word) (store_refusal store)) (wanted_word words) (Some Usage)
+
+-- the refusal of every command where there is no room
+abbrev pub roomless_refusal : List (List ℕ) → Option Answer
+roomless_refusal words = option_map_or (λ word. Some (Builders 1 0)) (wanted_word words) (Some Usage)
+
+-- the first refusal of a command over some rooms, a tree and a store
+abbrev pub refusal_over : {R : Type 0} → List R → List (List ℕ) → Contents → Contents → Option Answer
+refusal_over [] words tree store = roomless_refusal words
+refusal_over (room ∷ rooms) words tree store = refusal words tree store
 
 -- the job that a command asks for
 abbrev pub wanted_job : List (List ℕ) → Contents → Option JobView

@@ -2,7 +2,7 @@
 ghost use Rattle.std.specs.Prelude.{◌≡◌, ◌≤◌, [], false, IsTrue, IfOk};
 ghost use Rattle.bulk_run.specs.Ending.{GrewByOne};
 ghost use Rattle.bulk_model.specs.Bake.{bake};
-ghost use Rattle.bulk_run.specs.Causes.{IsCaused, err_is, blames_tree, blames_store, blames_room};
+ghost use Rattle.bulk_run.specs.Causes.{IsCaused, err_is, is_refusal, blames_tree, blames_store, blames_room};
 ghost use Rattle.bulk_run.specs.Decided.{IsInner};
 ghost use Rattle.bulk_run.specs.PortRun.{Reports, IsStoredOf};
 
@@ -30,6 +30,7 @@ fn build_port<R: Room>(alloc: Global, room: &mut R, job: &Job) -> Result<Outcome
     ensures tree { err_is blames_tree result ≡ false }
     ensures store { err_is blames_store result ≡ false }
     ensures inner { IsInner result }
+    ensures refusal { err_is is_refusal result ≡ false }
     ensures begun { GrewByOne (R.begun room.old) (R.begun room.new) }
 {
     match build(alloc, room, job) {
@@ -46,6 +47,7 @@ fn store_outcome<S: Store>(alloc: Global, store: &mut S, outcome: &Outcome) -> R
     ensures tree { err_is blames_tree result ≡ false }
     ensures room { err_is blames_room result ≡ false }
     ensures inner { IsInner result }
+    ensures refusal { err_is is_refusal result ≡ false }
 {
     match outcome {
         Outcome::Failed { .. } => Ok(()),
@@ -64,6 +66,7 @@ fn port_report(alloc: Global, job: &Job, outcome: &Outcome) -> Result<Report, An
     ensures store { err_is blames_store result ≡ false }
     ensures room { err_is blames_room result ≡ false }
     ensures inner { IsInner result }
+    ensures refusal { err_is is_refusal result ≡ false }
     ensures status { IfOk result (λ r. r.status ≤ 1) }
 {
     match port_lists(alloc, job, outcome) {
@@ -86,6 +89,7 @@ pub(crate) fn run_port<S: Store, R: Room>(
     ensures store { IsCaused (S.faults store.old) (S.faults store.new) (err_is blames_store result) }
     ensures room { IsCaused (R.faults room.old) (R.faults room.new) (err_is blames_room result) }
     ensures inner { IsInner result }
+    ensures refusal { err_is is_refusal result ≡ false }
     ensures begun { GrewByOne (R.begun room.old) (R.begun room.new) }
     ensures status { IfOk result (λ r. r.status ≤ 1) }
 {

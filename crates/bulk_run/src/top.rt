@@ -1,10 +1,12 @@
 // The top calls.
-ghost use Rattle.std.specs.Prelude.{◌≡◌, ◌≢◌, ◌≤◌, ◌<◌, ◌^◌, ◌++◌, ℕ, drop, vec_len, IsTrue, IfOk};
+ghost use Rattle.std.specs.Prelude.{◌≡◌, ◌≢◌, ◌≤◌, ◌<◌, ◌^◌, ◌++◌, ℕ, true, drop, vec_len, IsTrue, IfOk};
+ghost use Rattle.outside.specs.Changes.{IsUnchanged};
 ghost use Rattle.outside.specs.Faults.{Rose};
 ghost use Rattle.bulk_run.specs.AnswerLine.{answer_line};
 ghost use Rattle.bulk_run.specs.Ending.{GrewByOne, IsBlamed, IsStatusOf, faults_of_first, begun_in_first};
-ghost use Rattle.bulk_run.specs.Causes.{IsCaused, err_is, blames_tree, blames_store, blames_room};
-ghost use Rattle.bulk_run.specs.Decided.{IsInner};
+ghost use Rattle.bulk_run.specs.Causes.{IsCaused, err_is, is_refusal, blames_tree, blames_store, blames_room};
+ghost use Rattle.bulk_run.specs.FirstPath.{refusal, refusal_over, roomless_refusal};
+ghost use Rattle.bulk_run.specs.Decided.{IsInner, EndsAs, RunEndsAs};
 
 use crate::answer::{Answer, Closed, Finished};
 use crate::decision::{decide, is_command};
@@ -23,11 +25,14 @@ fn run<T: Tree, S: Store, R: Room>(
     store: &mut S,
     room: &mut R,
 ) -> Result<Report, Answer>
+    ensures told { IsTrue T.tells → IsTrue S.tells → RunEndsAs (refusal words.now (T.content tree.old) (S.content store.old)) result }
     ensures tree { IsCaused (T.faults tree.old) (T.faults tree.new) (err_is blames_tree result) }
     ensures store { IsCaused (S.faults store.old) (S.faults store.new) (err_is blames_store result) }
     ensures room { IsCaused (R.faults room.old) (R.faults room.new) (err_is blames_room result) }
     ensures inner { IsInner result }
     ensures begun { GrewByOne (R.begun room.old) (R.begun room.new) }
+    ensures same { err_is is_refusal result ≡ true → IsUnchanged (S.content store.old) (S.content store.new) (S.journal store.old) (S.journal store.new) }
+    ensures idle { err_is is_refusal result ≡ true → R.begun room.new ≡ R.begun room.old }
     ensures status { IfOk result (λ r. r.status ≤ 1) }
 {
     match decide(alloc, words, tree, store) {
@@ -45,9 +50,12 @@ pub fn bulk_alone<T: Tree, S: Store, R: Room, K: Sink>(
     room: &mut R,
     out: &mut K,
 ) -> Closed
+    ensures told { IsTrue T.tells → IsTrue S.tells → EndsAs (refusal words.now (T.content tree.old) (S.content store.old)) result.answer }
     ensures cause { IsBlamed result.answer (T.faults tree.old) (T.faults tree.new) (S.faults store.old) (S.faults store.new) (R.faults room.old) (R.faults room.new) (K.faults out.old) (K.faults out.new) }
     ensures status { IsStatusOf result.answer result.status }
     ensures begun { GrewByOne (R.begun room.old) (R.begun room.new) }
+    ensures same { is_refusal result.answer ≡ true → IsUnchanged (S.content store.old) (S.content store.new) (S.journal store.old) (S.journal store.new) }
+    ensures idle { is_refusal result.answer ≡ true → R.begun room.new ≡ R.begun room.old }
     ensures line { IsTrue K.tells → result.answer ≢ Answer.Done → result.answer ≢ Answer.NoMemory → (Rose (K.faults out.old) (K.faults out.new) → ⊥) → K.written out.new ≡ K.written out.old ++ answer_line result.answer }
 {
     match run(alloc, words, tree, store, room) {
@@ -65,6 +73,7 @@ pub fn bulk_alone<T: Tree, S: Store, R: Room, K: Sink>(
 
 // Runs a command that has no room.
 fn without_rooms<K: Sink>(alloc: Global, words: &[Text], out: &mut K) -> Closed
+    ensures told { EndsAs (roomless_refusal words.now) result.answer }
     ensures cause { (tb tn sb sn : ℕ) → IsBlamed result.answer tb tn sb sn 0 0 (K.faults out.old) (K.faults out.new) }
     ensures status { IsStatusOf result.answer result.status }
     ensures line { IsTrue K.tells → result.answer ≢ Answer.Done → result.answer ≢ Answer.NoMemory → (Rose (K.faults out.old) (K.faults out.new) → ⊥) → K.written out.new ≡ K.written out.old ++ answer_line result.answer }
@@ -99,6 +108,9 @@ pub fn poudriere<
 where
     R::Ways: Send + Sync,
     requires { vec_len rooms < 2 ^ 32 }
+    ensures told { IsTrue T.tells → IsTrue S.tells → EndsAs (refusal_over rooms.items words.now (T.content tree.old) (S.content store)) result.answer }
+    ensures same { is_refusal result.answer ≡ true → IsUnchanged (S.content store) (S.content result.store) (S.journal store) (S.journal result.store) }
+    ensures idle { is_refusal result.answer ≡ true → begun_in_first R.begun result.rooms.items ≡ begun_in_first R.begun rooms.items }
     ensures cause { IsBlamed result.answer (T.faults tree.old) (T.faults tree.new) (S.faults store) (S.faults result.store) (faults_of_first R.faults rooms.items) (faults_of_first R.faults result.rooms.items) (K.faults out.old) (K.faults out.new) }
     ensures status { IsStatusOf result.answer result.status }
     ensures begun { GrewByOne (begun_in_first R.begun rooms.items) (begun_in_first R.begun result.rooms.items) }
