@@ -13,7 +13,7 @@ use Rattle.bulk_run.specs.declared.answer.Answer.{Answer}
 use Rattle.bulk_run.specs.declared.answer.Answer.TheVariants.{Done, Usage, Builders, NotYet, NoOrigin, TreeFault, StoreFault, RoomFault, SinkFault, NoMemory}
 use Rattle.bulk_run.specs.Causes.{IsCaused, is_refusal, blames_tree, blames_store, blames_room}
 use Rattle.bulk_run.specs.Decided.{is_inner, EndsAs}
-use Rattle.bulk_run.specs.Ending.{GrewByOne, IsBlamed, IsStatusOf}
+use Rattle.bulk_run.specs.Ending.{GrewByOne, IsBlamed, HaveNotRisen, IsStatusOf}
 use Rattle.bulk_run.specs.AnswerLine.{answer_status}
 use mathlib.Core.Bool.{true≢false}
 use Rattle.std.proofs.lemmas.Bool.{eqb-true}
@@ -118,3 +118,19 @@ ended_unrefused refused answer e h = subst (λ o. EndsAs o answer) (sym e) h
 pub refused_in_the_end : (answer final : Answer) → (final ≡ answer) ⊎ (final ≡ NoMemory) → is_refusal final ≡ true → is_refusal answer ≡ true
 refused_in_the_end answer final (inl e) h = ap is_refusal (sym e) ∙ h
 refused_in_the_end answer final (inr e) h = absurd (true≢false (sym h ∙ ap is_refusal e))
+
+-- a run that was not refused, in which nothing failed and no memory was refused, is done
+done_unrefused : (answer : Answer) (tb tn sb sn rb rn kb kn : ℕ) → is_refusal answer ≡ false → (answer ≡ NoMemory → ⊥) → HaveNotRisen tb tn sb sn rb rn kb kn → IsBlamed answer tb tn sb sn rb rn kb kn → answer ≡ Done
+done_unrefused Done tb tn sb sn rb rn kb kn h m q b = refl
+done_unrefused Usage tb tn sb sn rb rn kb kn h m q b = absurd (true≢false h)
+done_unrefused (Builders asked had) tb tn sb sn rb rn kb kn h m q b = absurd (true≢false h)
+done_unrefused (NotYet path) tb tn sb sn rb rn kb kn h m q b = absurd (true≢false h)
+done_unrefused (NoOrigin word) tb tn sb sn rb rn kb kn h m q b = absurd (true≢false h)
+done_unrefused TreeFault tb tn sb sn rb rn kb kn h m q b = absurd (q.tree b)
+done_unrefused StoreFault tb tn sb sn rb rn kb kn h m q b = absurd (q.store b)
+done_unrefused (RoomFault builder) tb tn sb sn rb rn kb kn h m q (e, b) = absurd (q.room b)
+done_unrefused SinkFault tb tn sb sn rb rn kb kn h m q b = absurd (q.sink b)
+done_unrefused NoMemory tb tn sb sn rb rn kb kn h m q b = absurd (m refl)
+
+pub done_in_the_end : (refused : Option Answer) (answer : Answer) (tb tn sb sn rb rn kb kn : ℕ) → EndsAs refused answer → refused ≡ None → (answer ≡ NoMemory → ⊥) → HaveNotRisen tb tn sb sn rb rn kb kn → IsBlamed answer tb tn sb sn rb rn kb kn → answer ≡ Done
+done_in_the_end refused answer tb tn sb sn rb rn kb kn h e m q b = done_unrefused answer tb tn sb sn rb rn kb kn (subst (λ o. EndsAs o answer) e h) m q b

@@ -22,6 +22,13 @@ IsBlamed (RoomFault builder) tb tn sb sn rb rn kb kn = (builder ≡ 0) × Rose r
 IsBlamed SinkFault tb tn sb sn rb rn kb kn = Rose kb kn
 IsBlamed NoMemory tb tn sb sn rb rn kb kn = Unit {0}
 
+-- no count of the four rose
+pub record HaveNotRisen (tb tn sb sn rb rn kb kn : ℕ) : Type 0 where
+  pub tree : Rose tb tn → ⊥
+  pub store : Rose sb sn → ⊥
+  pub room : Rose rb rn → ⊥
+  pub sink : Rose kb kn → ⊥
+
 -- the exit status that an answer has: 0 or 1 for Done
 abbrev pub IsStatusOf : Answer → ℕ → Type 0
 IsStatusOf Done status = status ≤ 1

@@ -4,7 +4,7 @@ ghost use Rattle.bulk_run.specs.Ending.{GrewByOne};
 ghost use Rattle.bulk_model.specs.Bake.{bake};
 ghost use Rattle.bulk_run.specs.Causes.{IsCaused, err_is, is_refusal, blames_tree, blames_store, blames_room};
 ghost use Rattle.bulk_run.specs.Decided.{IsInner};
-ghost use Rattle.bulk_run.specs.PortRun.{Reports, IsStoredOf};
+ghost use Rattle.bulk_run.specs.PortRun.{Reports, IsStoredOf, RanPort};
 
 use crate::answer::Answer;
 use crate::port_lists::{port_lists, setback};
@@ -85,6 +85,7 @@ pub(crate) fn run_port<S: Store, R: Room>(
     room: &mut R,
     job: &Job,
 ) -> Result<Report, Answer>
+    ensures whole { IsTrue R.Ways.tells → IsTrue S.tells → IfOk result (RanPort job.now (bake R.Ways.runs [] job.now []) (S.content store.old) (S.content store.new)) }
     ensures tree { err_is blames_tree result ≡ false }
     ensures store { IsCaused (S.faults store.old) (S.faults store.new) (err_is blames_store result) }
     ensures room { IsCaused (R.faults room.old) (R.faults room.new) (err_is blames_room result) }

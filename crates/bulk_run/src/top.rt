@@ -1,9 +1,10 @@
 // The top calls.
-ghost use Rattle.std.specs.Prelude.{◌≡◌, ◌≢◌, ◌≤◌, ◌<◌, ◌^◌, ◌++◌, ℕ, true, drop, vec_len, IsTrue, IfOk};
+ghost use Rattle.std.specs.Prelude.{◌≡◌, ◌≢◌, ◌≤◌, ◌<◌, ◌^◌, ◌++◌, ℕ, true, None, drop, vec_len, IsTrue, IfOk};
 ghost use Rattle.outside.specs.Changes.{IsUnchanged};
 ghost use Rattle.outside.specs.Faults.{Rose};
 ghost use Rattle.bulk_run.specs.AnswerLine.{answer_line};
-ghost use Rattle.bulk_run.specs.Ending.{GrewByOne, IsBlamed, IsStatusOf, faults_of_first, begun_in_first};
+ghost use Rattle.bulk_run.specs.Ending.{GrewByOne, IsBlamed, HaveNotRisen, IsStatusOf, faults_of_first, begun_in_first};
+ghost use Rattle.bulk_run.specs.PortRun.{RanWanted, IsWhole};
 ghost use Rattle.bulk_run.specs.Causes.{IsCaused, err_is, is_refusal, blames_tree, blames_store, blames_room};
 ghost use Rattle.bulk_run.specs.FirstPath.{refusal, refusal_over, roomless_refusal};
 ghost use Rattle.bulk_run.specs.Decided.{IsInner, EndsAs, RunEndsAs};
@@ -26,6 +27,7 @@ fn run<T: Tree, S: Store, R: Room>(
     room: &mut R,
 ) -> Result<Report, Answer>
     ensures told { IsTrue T.tells → IsTrue S.tells → RunEndsAs (refusal words.now (T.content tree.old) (S.content store.old)) result }
+    ensures whole { IsTrue T.tells → IsTrue S.tells → IsTrue R.Ways.tells → IfOk result (RanWanted R.Ways.runs words.now (T.content tree.old) (S.content store.old) (S.content store.new)) }
     ensures tree { IsCaused (T.faults tree.old) (T.faults tree.new) (err_is blames_tree result) }
     ensures store { IsCaused (S.faults store.old) (S.faults store.new) (err_is blames_store result) }
     ensures room { IsCaused (R.faults room.old) (R.faults room.new) (err_is blames_room result) }
@@ -51,6 +53,8 @@ pub fn bulk_alone<T: Tree, S: Store, R: Room, K: Sink>(
     out: &mut K,
 ) -> Closed
     ensures told { IsTrue T.tells → IsTrue S.tells → EndsAs (refusal words.now (T.content tree.old) (S.content store.old)) result.answer }
+    ensures whole { IsTrue T.tells → IsTrue S.tells → IsTrue R.Ways.tells → IsTrue K.tells → result.answer ≡ Answer.Done → IsWhole R.Ways.runs words.now (T.content tree.old) (S.content store.old) (S.content store.new) (K.written out.old) (K.written out.new) result.status }
+    ensures done { IsTrue T.tells → IsTrue S.tells → refusal words.now (T.content tree.old) (S.content store.old) ≡ None → result.answer ≢ Answer.NoMemory → HaveNotRisen (T.faults tree.old) (T.faults tree.new) (S.faults store.old) (S.faults store.new) (R.faults room.old) (R.faults room.new) (K.faults out.old) (K.faults out.new) → result.answer ≡ Answer.Done }
     ensures cause { IsBlamed result.answer (T.faults tree.old) (T.faults tree.new) (S.faults store.old) (S.faults store.new) (R.faults room.old) (R.faults room.new) (K.faults out.old) (K.faults out.new) }
     ensures status { IsStatusOf result.answer result.status }
     ensures begun { GrewByOne (R.begun room.old) (R.begun room.new) }
@@ -74,6 +78,7 @@ pub fn bulk_alone<T: Tree, S: Store, R: Room, K: Sink>(
 // Runs a command that has no room.
 fn without_rooms<K: Sink>(alloc: Global, words: &[Text], out: &mut K) -> Closed
     ensures told { EndsAs (roomless_refusal words.now) result.answer }
+    ensures refused { result.answer ≢ Answer.Done }
     ensures cause { (tb tn sb sn : ℕ) → IsBlamed result.answer tb tn sb sn 0 0 (K.faults out.old) (K.faults out.new) }
     ensures status { IsStatusOf result.answer result.status }
     ensures line { IsTrue K.tells → result.answer ≢ Answer.Done → result.answer ≢ Answer.NoMemory → (Rose (K.faults out.old) (K.faults out.new) → ⊥) → K.written out.new ≡ K.written out.old ++ answer_line result.answer }
@@ -109,6 +114,8 @@ where
     R::Ways: Send + Sync,
     requires { vec_len rooms < 2 ^ 32 }
     ensures told { IsTrue T.tells → IsTrue S.tells → EndsAs (refusal_over rooms.items words.now (T.content tree.old) (S.content store)) result.answer }
+    ensures whole { IsTrue T.tells → IsTrue S.tells → IsTrue R.Ways.tells → IsTrue K.tells → result.answer ≡ Answer.Done → IsWhole R.Ways.runs words.now (T.content tree.old) (S.content store) (S.content result.store) (K.written out.old) (K.written out.new) result.status }
+    ensures done { IsTrue T.tells → IsTrue S.tells → refusal_over rooms.items words.now (T.content tree.old) (S.content store) ≡ None → result.answer ≢ Answer.NoMemory → HaveNotRisen (T.faults tree.old) (T.faults tree.new) (S.faults store) (S.faults result.store) (faults_of_first R.faults rooms.items) (faults_of_first R.faults result.rooms.items) (K.faults out.old) (K.faults out.new) → result.answer ≡ Answer.Done }
     ensures same { is_refusal result.answer ≡ true → IsUnchanged (S.content store) (S.content result.store) (S.journal store) (S.journal result.store) }
     ensures idle { is_refusal result.answer ≡ true → begun_in_first R.begun result.rooms.items ≡ begun_in_first R.begun rooms.items }
     ensures cause { IsBlamed result.answer (T.faults tree.old) (T.faults tree.new) (S.faults store) (S.faults result.store) (faults_of_first R.faults rooms.items) (faults_of_first R.faults result.rooms.items) (K.faults out.old) (K.faults out.new) }
