@@ -1,7 +1,7 @@
 -- How a run ends: what was begun, what was stored, and whom the answer blames.
 use Rattle.std.proofs.Common.{◌≡◌, ℕ, ◌≤◌, Bool, true, false, List, [], ◌∷◌, ◌++◌, ◌∙◌, ap, sym, subst, refl, inl, inr}
-use Rattle.std.specs.Prelude.{◌⊎◌, Option, Some, None, Result, Ok, Err, unwrap_or}
-use Rattle.std.specs.Option.{is_some}
+use Rattle.std.specs.Prelude.{◌⊎◌, Option, Some, None, Result, Ok, Err, unwrap_or, if◌then◌else◌, get_or, length, set, IfErr}
+use Rattle.std.specs.Option.{is_some, option_map_or, option_or}
 use Rattle.outside.specs.Changes.{Made, TookEffect, IsUnchanged, changed}
 use Rattle.outside.specs.Contents.{Contents}
 use Rattle.outside.specs.Faults.{Rose}
@@ -11,22 +11,47 @@ use Rattle.outside.specs.declared.outer.Outer.{Outer}
 use Rattle.outside.specs.declared.outer.Outer.TheVariants.{Fault, NoMemory as Refused}
 use Rattle.bulk_run.specs.declared.answer.Answer.{Answer}
 use Rattle.bulk_run.specs.declared.answer.Answer.TheVariants.{Done, Usage, Builders, NotYet, NoOrigin, TreeFault, StoreFault, RoomFault, SinkFault, NoMemory}
-use Rattle.bulk_run.specs.Causes.{IsCaused, is_refusal, blames_tree, blames_store, blames_room}
-use Rattle.bulk_run.specs.Decided.{is_inner, EndsAs}
-use Rattle.bulk_run.specs.Ending.{GrewByOne, IsBlamed, HaveNotRisen, IsStatusOf}
+use Rattle.bulk_model.specs.Bake.{Runs}
+use Rattle.bulk_model.specs.Views.{JobView}
+use Rattle.bulk_run.specs.declared.port_run.Report.{Report}
+use Rattle.bulk_run.specs.Causes.{IsCaused, err_is, is_refusal, leaves_rooms, leaves_store, blames_tree, blames_store, blames_room}
+use Rattle.bulk_run.specs.Decided.{is_inner, is_of_tree, is_of_words, AnswersWords, EndsAs, EndsInTree}
+use Rattle.bulk_run.specs.PortRun.{HasStoredWanted, RanWanted}
+use Rattle.bulk_run.specs.Ending.{BeganAtMost, GrewByOne, IsBlamed, HaveNotRisen, IsStatusOf, begun_in_first}
 use Rattle.bulk_run.specs.AnswerLine.{answer_status}
 use mathlib.Core.Bool.{true≢false}
 use Rattle.std.proofs.lemmas.Bool.{eqb-true}
 
 -- after a fault the change was made or nothing changed
 pub made_or_not : (change : Change) (before now : Contents) (told_before told_now : List Change) (X : Type 0) (outer : Outer) (after : Contents) → outer ≡ Fault
-    → Made change before now told_before told_now (let r : Result X Outer = Err outer in r) → changed change before ≡ after → (now ≡ after) ⊎ (now ≡ before)
-made_or_not change before now told_before told_now X Fault after e (inl made) h = inl (made.content ∙ h)
-made_or_not change before now told_before told_now X Fault after e (inr kept) h = inr kept.content
-made_or_not change before now told_before told_now X Refused after e kept h = inr kept.content
+    → Made change before now told_before told_now (let r : Result X Outer = Err outer in r) → changed change before ≡ after → (now ≡ before) ⊎ (now ≡ after)
+made_or_not change before now told_before told_now X Fault after e (inl made) h = inr (made.content ∙ h)
+made_or_not change before now told_before told_now X Fault after e (inr kept) h = inl kept.content
+made_or_not change before now told_before told_now X Refused after e kept h = inl kept.content
 
-pub one_begun : (name : List ℕ) (before now : List (List ℕ)) → now ≡ before ++ name ∷ [] → GrewByOne before now
-one_begun name before now e = inl (name, e)
+-- no name was begun, whatever is wanted
+pub none_began : (wanted : Option JobView) (before now : List (List ℕ)) → now ≡ before → BeganAtMost wanted before now
+none_began None before now e = e
+none_began (Some job) before now e = inr e
+
+pub wanted_began : (wanted : Option JobView) (job : JobView) (before now : List (List ℕ)) → wanted ≡ Some job → GrewByAtMost job.name before now → BeganAtMost wanted before now
+wanted_began wanted job before now e h = subst (λ w. BeganAtMost w before now) (sym e) h
+
+-- what was stored before the lists were printed
+pub stored_of_ran : (tells : Bool) (runs : Runs) (words : List (List ℕ)) (tree before now : Contents) (begun_before begun_now : List (List ℕ)) (report : Report)
+    → RanWanted tells runs words tree before now begun_before begun_now report → HasStoredWanted tells runs words tree before now
+stored_of_ran tells runs words tree before now begun_before begun_now report h = record {
+  job = h.job;
+  wanted = h.wanted;
+  kept = record { outcome = h.ran.outcome; build = h.ran.build; content = h.ran.content };
+}
+
+-- where each refusal that an object tells is none, so is the first that is told
+pub none_told : (tree_tells store_tells : Bool) (by_tree by_store : Option Answer) → (tree_tells ≡ true → by_tree ≡ None) → (store_tells ≡ true → by_store ≡ None)
+    → (if tree_tells then option_or by_tree (if store_tells then by_store else None) else None) ≡ None
+none_told false store_tells by_tree by_store t s = refl
+none_told true false by_tree by_store t s = ap (λ o. option_or o None) (t refl)
+none_told true true by_tree by_store t s = ap (λ o. option_or o by_store) (t refl) ∙ s refl
 
 pub one_begun_at_most : (name : List ℕ) (before now : List (List ℕ)) → GrewByAtMost name before now → GrewByOne before now
 one_begun_at_most name before now (inl e) = inl (name, e)
@@ -114,10 +139,67 @@ ended_in_the_end refused answer final (inr e) h = subst (λ a. EndsAs refused a)
 pub ended_unrefused : (refused : Option Answer) (answer : Answer) → refused ≡ None → is_refusal answer ≡ false → EndsAs refused answer
 ended_unrefused refused answer e h = subst (λ o. EndsAs o answer) (sym e) h
 
--- what is refused in the end was refused by the decision
-pub refused_in_the_end : (answer final : Answer) → (final ≡ answer) ⊎ (final ≡ NoMemory) → is_refusal final ≡ true → is_refusal answer ≡ true
-refused_in_the_end answer final (inl e) h = ap is_refusal (sym e) ∙ h
-refused_in_the_end answer final (inr e) h = absurd (true≢false (sym h ∙ ap is_refusal e))
+-- an answer that leaves the store or the rooms alone in the end did so when it was given
+pub left_store_in_the_end : (answer final : Answer) → (final ≡ answer) ⊎ (final ≡ NoMemory) → leaves_store final ≡ true → leaves_store answer ≡ true
+left_store_in_the_end answer final (inl e) h = ap leaves_store (sym e) ∙ h
+left_store_in_the_end answer final (inr e) h = absurd (true≢false (sym h ∙ ap leaves_store e))
+
+pub left_rooms_in_the_end : (answer final : Answer) → (final ≡ answer) ⊎ (final ≡ NoMemory) → leaves_rooms final ≡ true → leaves_rooms answer ≡ true
+left_rooms_in_the_end answer final (inl e) h = ap leaves_rooms (sym e) ∙ h
+left_rooms_in_the_end answer final (inr e) h = absurd (true≢false (sym h ∙ ap leaves_rooms e))
+
+-- a fault of the tree, and want of memory, may stand for every refusal
+pub tree_failed : (refused : Option Answer) → EndsInTree refused TreeFault
+tree_failed None = refl
+tree_failed (Some first) = inr (inl refl)
+
+pub tree_without_memory : (refused : Option Answer) → EndsInTree refused NoMemory
+tree_without_memory None = refl
+tree_without_memory (Some first) = inr (inr refl)
+
+-- behind a tree that refuses nothing
+pub ended_behind_tree : (refused : Option Answer) (answer : Answer) → refused ≡ None → is_of_tree answer ≡ false → EndsInTree refused answer
+ended_behind_tree refused answer e h = subst (λ o. EndsInTree o answer) (sym e) h
+
+pub ended_in_tree_in_the_end : (refused : Option Answer) (answer final : Answer) → (final ≡ answer) ⊎ (final ≡ NoMemory) → EndsInTree refused answer → EndsInTree refused final
+ended_in_tree_in_the_end refused answer final (inl e) h = subst (λ a. EndsInTree refused a) (sym e) h
+ended_in_tree_in_the_end refused answer final (inr e) h = subst (λ a. EndsInTree refused a) (sym e) (tree_without_memory refused)
+
+-- what the words alone decide
+words_without_memory : (word : Option (List ℕ)) → AnswersWords word NoMemory
+words_without_memory None = inr refl
+words_without_memory (Some word) = refl
+
+pub answered_words_in_the_end : (word : Option (List ℕ)) (answer final : Answer) → (final ≡ answer) ⊎ (final ≡ NoMemory) → AnswersWords word answer → AnswersWords word final
+answered_words_in_the_end word answer final (inl e) h = subst (λ a. AnswersWords word a) (sym e) h
+answered_words_in_the_end word answer final (inr e) h = subst (λ a. AnswersWords word a) (sym e) (words_without_memory word)
+
+-- words that are a command are not answered by an answer of the words
+pub answered_command : (asked : Option (List ℕ)) (word : List ℕ) (answer : Answer) → asked ≡ Some word → is_of_words answer ≡ false → AnswersWords asked answer
+answered_command asked word answer e h = subst (λ w. AnswersWords w answer) (sym e) h
+
+words_refuse : (answer : Answer) → is_refusal answer ≡ false → is_of_words answer ≡ false
+words_refuse Done h = refl
+words_refuse Usage h = absurd (true≢false h)
+words_refuse (Builders asked had) h = absurd (true≢false h)
+words_refuse (NotYet path) h = refl
+words_refuse (NoOrigin word) h = refl
+words_refuse TreeFault h = refl
+words_refuse StoreFault h = refl
+words_refuse (RoomFault b) h = refl
+words_refuse SinkFault h = refl
+words_refuse NoMemory h = refl
+
+-- what was not refused, by the words or else, is not answered by an answer of the words
+pub answered_unrefused : (X : Type 0) (by_word : List ℕ → Option Answer) (asked : Option (List ℕ)) (result : Result X Answer) → option_map_or by_word asked (Some Usage) ≡ None → err_is is_refusal result ≡ false → IfErr result (AnswersWords asked)
+answered_unrefused X by_word asked (Ok x) e h = tt
+answered_unrefused X by_word None (Err answer) e h = absurd (some≢none Usage (sym e))
+answered_unrefused X by_word (Some word) (Err answer) e h = words_refuse answer h
+
+-- an answer that only the printing gives is no inner one
+pub sink_fault_in_the_end : (answer final : Answer) → (final ≡ answer) ⊎ (final ≡ NoMemory) → is_inner answer ≡ true → final ≡ SinkFault → ⊥
+sink_fault_in_the_end answer final (inl e) i s = true≢false (sym i ∙ ap is_inner (sym e ∙ s))
+sink_fault_in_the_end answer final (inr e) i s = true≢false (ap is_inner (sym e ∙ s))
 
 -- a run that was not refused, in which nothing failed and no memory was refused, is done
 done_unrefused : (answer : Answer) (tb tn sb sn rb rn kb kn : ℕ) → is_refusal answer ≡ false → (answer ≡ NoMemory → ⊥) → HaveNotRisen tb tn sb sn rb rn kb kn → IsBlamed answer tb tn sb sn rb rn kb kn → answer ≡ Done
@@ -134,3 +216,12 @@ done_unrefused NoMemory tb tn sb sn rb rn kb kn h m q b = absurd (m refl)
 
 pub done_in_the_end : (refused : Option Answer) (answer : Answer) (tb tn sb sn rb rn kb kn : ℕ) → EndsAs refused answer → refused ≡ None → (answer ≡ NoMemory → ⊥) → HaveNotRisen tb tn sb sn rb rn kb kn → IsBlamed answer tb tn sb sn rb rn kb kn → answer ≡ Done
 done_in_the_end refused answer tb tn sb sn rb rn kb kn h e m q b = done_unrefused answer tb tn sb sn rb rn kb kn (subst (λ o. EndsAs o answer) e h) m q b
+
+-- what is said of the first room, once that room is known
+pub first_begun : (R : Type 0) (begun : R → List (List ℕ)) (rooms : List R) (room : R) → (length rooms ≡ 0 → ⊥) → room ≡ get_or rooms 0 room → begun_in_first begun rooms ≡ begun room
+first_begun R begun [] room h e = absurd (h refl)
+first_begun R begun (first ∷ rooms) room h e = ap begun (sym e)
+
+pub first_begun_after : (R : Type 0) (begun : R → List (List ℕ)) (rooms : List R) (now : R) → (length rooms ≡ 0 → ⊥) → begun_in_first begun (set rooms 0 now) ≡ begun now
+first_begun_after R begun [] now h = absurd (h refl)
+first_begun_after R begun (first ∷ rooms) now h = refl

@@ -29,6 +29,32 @@ is_refusal (RoomFault builder) = false
 is_refusal SinkFault = false
 is_refusal NoMemory = false
 
+-- an answer that stands before the store is changed: a refusal, or a fault of the tree or of a room
+abbrev pub leaves_store : Answer → Bool
+leaves_store Done = false
+leaves_store Usage = true
+leaves_store (Builders asked had) = true
+leaves_store (NotYet path) = true
+leaves_store (NoOrigin word) = true
+leaves_store TreeFault = true
+leaves_store StoreFault = false
+leaves_store (RoomFault builder) = true
+leaves_store SinkFault = false
+leaves_store NoMemory = false
+
+-- an answer that stands before a room is entered: a refusal, or a fault of the tree
+abbrev pub leaves_rooms : Answer → Bool
+leaves_rooms Done = false
+leaves_rooms Usage = true
+leaves_rooms (Builders asked had) = true
+leaves_rooms (NotYet path) = true
+leaves_rooms (NoOrigin word) = true
+leaves_rooms TreeFault = true
+leaves_rooms StoreFault = false
+leaves_rooms (RoomFault builder) = false
+leaves_rooms SinkFault = false
+leaves_rooms NoMemory = false
+
 -- whether a result is an error that passes a test
 abbrev pub err_is : {X : Type 0} → (Answer → Bool) → Result X Answer → Bool
 err_is test (Ok x) = false

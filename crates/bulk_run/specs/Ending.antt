@@ -1,12 +1,19 @@
 -- What an answer says of the objects that were handed in.
-use Rattle.std.specs.Prelude.{◌≡◌, ℕ, ◌≤◌, ◌⊎◌, List, [], ◌∷◌, ◌++◌}
+use Rattle.std.specs.Prelude.{◌≡◌, ℕ, ◌≤◌, ◌⊎◌, List, [], ◌∷◌, ◌++◌, Option, Some, None}
 use Rattle.outside.specs.Faults.{Rose}
+use Rattle.outside.specs.Outcomes.{GrewByAtMost}
+use Rattle.bulk_model.specs.Views.{JobView}
 use Rattle.bulk_run.specs.declared.answer.Answer.{Answer}
 use Rattle.bulk_run.specs.declared.answer.Answer.TheVariants.{Done, Usage, Builders, NotYet, NoOrigin, TreeFault, StoreFault, RoomFault, SinkFault, NoMemory}
 
 -- one name was begun, or none
 abbrev pub GrewByOne : List (List ℕ) → List (List ℕ) → Type 0
 GrewByOne before now = ((name : List ℕ) × (now ≡ before ++ name ∷ [])) ⊎ (now ≡ before)
+
+-- the name of the wanted port was begun, or none
+abbrev pub BeganAtMost : Option JobView → List (List ℕ) → List (List ℕ) → Type 0
+BeganAtMost None before now = now ≡ before
+BeganAtMost (Some job) before now = GrewByAtMost job.name before now
 
 -- a fault is answered only where the count of that very object rose, and Done only where no count moved; the counts
 -- of the tree, the store, the room and the sink stand before and after, in this order

@@ -113,14 +113,33 @@ is_package_file name = nat_lt 3 (length name) && bytes_eq (drop (length name - 4
 abbrev pub store_refusal : Contents → Option Answer
 store_refusal content = option_map NotYet (find is_package_file (keys content))
 
+-- the first refusal that the words and the tree give cause for
+abbrev pub refusal_before_store : List (List ℕ) → Contents → Option Answer
+refusal_before_store words tree = option_map_or (tree_refusal tree) (wanted_word words) (Some Usage)
+
 -- the first refusal of a command over a tree and a store
 abbrev pub refusal : List (List ℕ) → Contents → Contents → Option Answer
-refusal words tree store =
-    option_map_or (λ word. option_or (tree_refusal tree word) (store_refusal store)) (wanted_word words) (Some Usage)
+refusal words tree store = option_or (refusal_before_store words tree) (store_refusal store)
+
+-- the first refusal as far as the objects tell it: a tree that does not tell hides its own and all behind it, as does a
+-- store that does not tell
+abbrev pub told_refusal : Bool → Bool → List (List ℕ) → Contents → Contents → Option Answer
+told_refusal tree_tells store_tells words tree store =
+    option_map_or (λ word. if tree_tells then option_or (tree_refusal tree word) (if store_tells then store_refusal store else None) else None) (wanted_word words) (Some Usage)
 
 -- the refusal of every command where there is no room
 abbrev pub roomless_refusal : List (List ℕ) → Option Answer
 roomless_refusal words = option_map_or (λ word. Some (Builders 1 0)) (wanted_word words) (Some Usage)
+
+-- the first refusal that the words, the rooms and the tree give cause for
+abbrev pub refusal_over_before_store : {R : Type 0} → List R → List (List ℕ) → Contents → Option Answer
+refusal_over_before_store [] words tree = roomless_refusal words
+refusal_over_before_store (room ∷ rooms) words tree = refusal_before_store words tree
+
+-- the first refusal of a command over some rooms, as far as the tree and the store tell it
+abbrev pub told_refusal_over : {R : Type 0} → List R → Bool → Bool → List (List ℕ) → Contents → Contents → Option Answer
+told_refusal_over [] tree_tells store_tells words tree store = roomless_refusal words
+told_refusal_over (room ∷ rooms) tree_tells store_tells words tree store = told_refusal tree_tells store_tells words tree store
 
 -- the first refusal of a command over some rooms, a tree and a store
 abbrev pub refusal_over : {R : Type 0} → List R → List (List ℕ) → Contents → Contents → Option Answer

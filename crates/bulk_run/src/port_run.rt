@@ -1,10 +1,11 @@
 // One port built, its package stored, and the text that says so.
-ghost use Rattle.std.specs.Prelude.{◌≡◌, ◌≤◌, [], false, IsTrue, IfOk};
-ghost use Rattle.bulk_run.specs.Ending.{GrewByOne};
-ghost use Rattle.bulk_model.specs.Bake.{bake};
+ghost use Rattle.std.specs.Prelude.{◌≡◌, ◌≤◌, ◌⊎◌, ◌++◌, [], ◌∷◌, true, false, IsTrue, IfOk, OnOk, OnErr};
+ghost use Rattle.outside.specs.Changes.{IsUnchanged};
+ghost use Rattle.outside.specs.Outcomes.{GrewByAtMost};
 ghost use Rattle.bulk_run.specs.Causes.{IsCaused, err_is, is_refusal, blames_tree, blames_store, blames_room};
 ghost use Rattle.bulk_run.specs.Decided.{IsInner};
-ghost use Rattle.bulk_run.specs.PortRun.{Reports, IsStoredOf, RanPort};
+ghost use Rattle.bulk_run.specs.Report.{stored};
+ghost use Rattle.bulk_run.specs.PortRun.{Reports, IsBuildOf, HasStored, RanPort};
 
 use crate::answer::Answer;
 use crate::port_lists::{port_lists, setback};
@@ -25,13 +26,14 @@ pub(crate) struct Report {
 
 // Builds in the room.
 fn build_port<R: Room>(alloc: Global, room: &mut R, job: &Job) -> Result<Outcome, Answer>
-    ensures told { IsTrue R.Ways.tells → IfOk result (λ outcome. outcome ≡ bake R.Ways.runs [] job.now []) }
+    ensures build { IfOk result (IsBuildOf R.Ways.tells R.Ways.runs job.now) }
     ensures cause { IsCaused (R.faults room.old) (R.faults room.new) (err_is blames_room result) }
     ensures tree { err_is blames_tree result ≡ false }
     ensures store { err_is blames_store result ≡ false }
     ensures inner { IsInner result }
     ensures refusal { err_is is_refusal result ≡ false }
-    ensures begun { GrewByOne (R.begun room.old) (R.begun room.new) }
+    ensures begun { OnOk result (R.begun room.new ≡ R.begun room.old ++ job.now.name ∷ []) }
+    ensures begun_err { OnErr result (GrewByAtMost job.now.name (R.begun room.old) (R.begun room.new)) }
 {
     match build(alloc, room, job) {
         Ok(outcome) => Ok(outcome),
@@ -42,7 +44,8 @@ fn build_port<R: Room>(alloc: Global, room: &mut R, job: &Job) -> Result<Outcome
 
 // Puts what was built into the store.
 fn store_outcome<S: Store>(alloc: Global, store: &mut S, outcome: &Outcome) -> Result<(), Answer>
-    ensures told { IsTrue S.tells → IsStoredOf outcome.now (S.content store.old) (S.content store.new) result }
+    ensures told { IsTrue S.tells → OnOk result (S.content store.new ≡ stored outcome.now (S.content store.old)) }
+    ensures left { IsTrue S.tells → OnErr result ((S.content store.new ≡ S.content store.old) ⊎ (S.content store.new ≡ stored outcome.now (S.content store.old))) }
     ensures cause { IsCaused (S.faults store.old) (S.faults store.new) (err_is blames_store result) }
     ensures tree { err_is blames_tree result ≡ false }
     ensures room { err_is blames_room result ≡ false }
@@ -85,13 +88,15 @@ pub(crate) fn run_port<S: Store, R: Room>(
     room: &mut R,
     job: &Job,
 ) -> Result<Report, Answer>
-    ensures whole { IsTrue R.Ways.tells → IsTrue S.tells → IfOk result (RanPort job.now (bake R.Ways.runs [] job.now []) (S.content store.old) (S.content store.new)) }
+    ensures whole { IsTrue S.tells → IfOk result (RanPort R.Ways.tells R.Ways.runs job.now (S.content store.old) (S.content store.new) (R.begun room.old) (R.begun room.new)) }
+    ensures left { IsTrue S.tells → (S.content store.new ≡ S.content store.old) ⊎ HasStored R.Ways.tells R.Ways.runs job.now (S.content store.old) (S.content store.new) }
+    ensures same { err_is blames_room result ≡ true → IsUnchanged (S.content store.old) (S.content store.new) (S.journal store.old) (S.journal store.new) }
     ensures tree { err_is blames_tree result ≡ false }
     ensures store { IsCaused (S.faults store.old) (S.faults store.new) (err_is blames_store result) }
     ensures room { IsCaused (R.faults room.old) (R.faults room.new) (err_is blames_room result) }
     ensures inner { IsInner result }
     ensures refusal { err_is is_refusal result ≡ false }
-    ensures begun { GrewByOne (R.begun room.old) (R.begun room.new) }
+    ensures begun { GrewByAtMost job.now.name (R.begun room.old) (R.begun room.new) }
     ensures status { IfOk result (λ r. r.status ≤ 1) }
 {
     match build_port(alloc, room, job) {

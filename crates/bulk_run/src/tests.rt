@@ -5,6 +5,8 @@ use outside::{CallKind, Fail, Fails, MemRoom, MemSink, MemStore, MemTree, Store}
 use std::alloc::Global;
 use std::test;
 
+mod refusals;
+
 const GOOD: &str = "PORTNAME=x\nPORTVERSION=1.0\nDO_STAGE=cp work/hello stage/hello\n";
 
 const FAILING: &str =

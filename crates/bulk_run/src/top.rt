@@ -1,13 +1,13 @@
 // The top calls.
-ghost use Rattle.std.specs.Prelude.{◌≡◌, ◌≢◌, ◌≤◌, ◌<◌, ◌^◌, ◌++◌, ℕ, true, None, drop, vec_len, IsTrue, IfOk};
+ghost use Rattle.std.specs.Prelude.{◌≡◌, ◌≢◌, ◌≤◌, ◌<◌, ◌^◌, ◌⊎◌, ◌++◌, ℕ, true, None, drop, vec_len, IsTrue, IfOk, IfErr, OnOk};
 ghost use Rattle.outside.specs.Changes.{IsUnchanged};
 ghost use Rattle.outside.specs.Faults.{Rose};
 ghost use Rattle.bulk_run.specs.AnswerLine.{answer_line};
-ghost use Rattle.bulk_run.specs.Ending.{GrewByOne, IsBlamed, HaveNotRisen, IsStatusOf, faults_of_first, begun_in_first};
-ghost use Rattle.bulk_run.specs.PortRun.{RanWanted, IsWhole};
-ghost use Rattle.bulk_run.specs.Causes.{IsCaused, err_is, is_refusal, blames_tree, blames_store, blames_room};
-ghost use Rattle.bulk_run.specs.FirstPath.{refusal, refusal_over, roomless_refusal};
-ghost use Rattle.bulk_run.specs.Decided.{IsInner, EndsAs, RunEndsAs};
+ghost use Rattle.bulk_run.specs.Ending.{BeganAtMost, GrewByOne, IsBlamed, HaveNotRisen, IsStatusOf, faults_of_first, begun_in_first};
+ghost use Rattle.bulk_run.specs.PortRun.{HasStoredWanted, IsWhole, RanWanted};
+ghost use Rattle.bulk_run.specs.Causes.{IsCaused, err_is, leaves_rooms, leaves_store, blames_tree, blames_store, blames_room};
+ghost use Rattle.bulk_run.specs.FirstPath.{refusal, refusal_before_store, refusal_over, refusal_over_before_store, roomless_refusal, told_refusal, told_refusal_over, wanted_job, wanted_word};
+ghost use Rattle.bulk_run.specs.Decided.{AnswersRoomless, AnswersWords, AnswersWordsOver, IsInner, EndsAs, EndsInTree, RunEndsAs, RunEndsInTree};
 
 use crate::answer::{Answer, Closed, Finished};
 use crate::decision::{decide, is_command};
@@ -27,14 +27,21 @@ fn run<T: Tree, S: Store, R: Room>(
     room: &mut R,
 ) -> Result<Report, Answer>
     ensures told { IsTrue T.tells → IsTrue S.tells → RunEndsAs (refusal words.now (T.content tree.old) (S.content store.old)) result }
-    ensures whole { IsTrue T.tells → IsTrue S.tells → IsTrue R.Ways.tells → IfOk result (RanWanted R.Ways.runs words.now (T.content tree.old) (S.content store.old) (S.content store.new)) }
+    ensures before_store { IsTrue T.tells → RunEndsInTree (refusal_before_store words.now (T.content tree.old)) result }
+    ensures words { IfErr result (AnswersWords (wanted_word words.now)) }
+    ensures whole { IsTrue T.tells → IsTrue S.tells → IfOk result (RanWanted R.Ways.tells R.Ways.runs words.now (T.content tree.old) (S.content store.old) (S.content store.new) (R.begun room.old) (R.begun room.new)) }
+    ensures left { IsTrue T.tells → IsTrue S.tells → (S.content store.new ≡ S.content store.old) ⊎ HasStoredWanted R.Ways.tells R.Ways.runs words.now (T.content tree.old) (S.content store.old) (S.content store.new) }
+    ensures unrefused { OnOk result (told_refusal T.tells S.tells words.now (T.content tree.old) (S.content store.old) ≡ None) }
     ensures tree { IsCaused (T.faults tree.old) (T.faults tree.new) (err_is blames_tree result) }
     ensures store { IsCaused (S.faults store.old) (S.faults store.new) (err_is blames_store result) }
     ensures room { IsCaused (R.faults room.old) (R.faults room.new) (err_is blames_room result) }
     ensures inner { IsInner result }
     ensures begun { GrewByOne (R.begun room.old) (R.begun room.new) }
-    ensures same { err_is is_refusal result ≡ true → IsUnchanged (S.content store.old) (S.content store.new) (S.journal store.old) (S.journal store.new) }
-    ensures idle { err_is is_refusal result ≡ true → R.begun room.new ≡ R.begun room.old }
+    ensures name { IsTrue T.tells → BeganAtMost (wanted_job words.now (T.content tree.old)) (R.begun room.old) (R.begun room.new) }
+    ensures same { err_is leaves_store result ≡ true → IsUnchanged (S.content store.old) (S.content store.new) (S.journal store.old) (S.journal store.new) }
+    ensures idle { err_is leaves_rooms result ≡ true → R.begun room.new ≡ R.begun room.old }
+    ensures kept { told_refusal T.tells S.tells words.now (T.content tree.old) (S.content store.old) ≢ None → IsUnchanged (S.content store.old) (S.content store.new) (S.journal store.old) (S.journal store.new) }
+    ensures still { told_refusal T.tells S.tells words.now (T.content tree.old) (S.content store.old) ≢ None → R.begun room.new ≡ R.begun room.old }
     ensures status { IfOk result (λ r. r.status ≤ 1) }
 {
     match decide(alloc, words, tree, store) {
@@ -53,13 +60,20 @@ pub fn bulk_alone<T: Tree, S: Store, R: Room, K: Sink>(
     out: &mut K,
 ) -> Closed
     ensures told { IsTrue T.tells → IsTrue S.tells → EndsAs (refusal words.now (T.content tree.old) (S.content store.old)) result.answer }
-    ensures whole { IsTrue T.tells → IsTrue S.tells → IsTrue R.Ways.tells → IsTrue K.tells → result.answer ≡ Answer.Done → IsWhole R.Ways.runs words.now (T.content tree.old) (S.content store.old) (S.content store.new) (K.written out.old) (K.written out.new) result.status }
+    ensures before_store { IsTrue T.tells → EndsInTree (refusal_before_store words.now (T.content tree.old)) result.answer }
+    ensures words { AnswersWords (wanted_word words.now) result.answer }
+    ensures whole { IsTrue T.tells → IsTrue S.tells → IsTrue K.tells → result.answer ≡ Answer.Done → IsWhole R.Ways.tells R.Ways.runs words.now (T.content tree.old) (S.content store.old) (S.content store.new) (R.begun room.old) (R.begun room.new) (K.written out.old) (K.written out.new) result.status }
     ensures done { IsTrue T.tells → IsTrue S.tells → refusal words.now (T.content tree.old) (S.content store.old) ≡ None → result.answer ≢ Answer.NoMemory → HaveNotRisen (T.faults tree.old) (T.faults tree.new) (S.faults store.old) (S.faults store.new) (R.faults room.old) (R.faults room.new) (K.faults out.old) (K.faults out.new) → result.answer ≡ Answer.Done }
     ensures cause { IsBlamed result.answer (T.faults tree.old) (T.faults tree.new) (S.faults store.old) (S.faults store.new) (R.faults room.old) (R.faults room.new) (K.faults out.old) (K.faults out.new) }
     ensures status { IsStatusOf result.answer result.status }
     ensures begun { GrewByOne (R.begun room.old) (R.begun room.new) }
-    ensures same { is_refusal result.answer ≡ true → IsUnchanged (S.content store.old) (S.content store.new) (S.journal store.old) (S.journal store.new) }
-    ensures idle { is_refusal result.answer ≡ true → R.begun room.new ≡ R.begun room.old }
+    ensures name { IsTrue T.tells → BeganAtMost (wanted_job words.now (T.content tree.old)) (R.begun room.old) (R.begun room.new) }
+    ensures same { leaves_store result.answer ≡ true → IsUnchanged (S.content store.old) (S.content store.new) (S.journal store.old) (S.journal store.new) }
+    ensures idle { leaves_rooms result.answer ≡ true → R.begun room.new ≡ R.begun room.old }
+    ensures kept { told_refusal T.tells S.tells words.now (T.content tree.old) (S.content store.old) ≢ None → IsUnchanged (S.content store.old) (S.content store.new) (S.journal store.old) (S.journal store.new) }
+    ensures still { told_refusal T.tells S.tells words.now (T.content tree.old) (S.content store.old) ≢ None → R.begun room.new ≡ R.begun room.old }
+    ensures left { IsTrue T.tells → IsTrue S.tells → (S.content store.new ≡ S.content store.old) ⊎ HasStoredWanted R.Ways.tells R.Ways.runs words.now (T.content tree.old) (S.content store.old) (S.content store.new) }
+    ensures finished { IsTrue T.tells → IsTrue S.tells → result.answer ≡ Answer.SinkFault → HasStoredWanted R.Ways.tells R.Ways.runs words.now (T.content tree.old) (S.content store.old) (S.content store.new) }
     ensures line { IsTrue K.tells → result.answer ≢ Answer.Done → result.answer ≢ Answer.NoMemory → (Rose (K.faults out.old) (K.faults out.new) → ⊥) → K.written out.new ≡ K.written out.old ++ answer_line result.answer }
 {
     match run(alloc, words, tree, store, room) {
@@ -78,7 +92,9 @@ pub fn bulk_alone<T: Tree, S: Store, R: Room, K: Sink>(
 // Runs a command that has no room.
 fn without_rooms<K: Sink>(alloc: Global, words: &[Text], out: &mut K) -> Closed
     ensures told { EndsAs (roomless_refusal words.now) result.answer }
+    ensures words { AnswersRoomless (wanted_word words.now) result.answer }
     ensures refused { result.answer ≢ Answer.Done }
+    ensures unprinted { result.answer ≢ Answer.SinkFault }
     ensures cause { (tb tn sb sn : ℕ) → IsBlamed result.answer tb tn sb sn 0 0 (K.faults out.old) (K.faults out.new) }
     ensures status { IsStatusOf result.answer result.status }
     ensures line { IsTrue K.tells → result.answer ≢ Answer.Done → result.answer ≢ Answer.NoMemory → (Rose (K.faults out.old) (K.faults out.new) → ⊥) → K.written out.new ≡ K.written out.old ++ answer_line result.answer }
@@ -114,13 +130,20 @@ where
     R::Ways: Send + Sync,
     requires { vec_len rooms < 2 ^ 32 }
     ensures told { IsTrue T.tells → IsTrue S.tells → EndsAs (refusal_over rooms.items words.now (T.content tree.old) (S.content store)) result.answer }
-    ensures whole { IsTrue T.tells → IsTrue S.tells → IsTrue R.Ways.tells → IsTrue K.tells → result.answer ≡ Answer.Done → IsWhole R.Ways.runs words.now (T.content tree.old) (S.content store) (S.content result.store) (K.written out.old) (K.written out.new) result.status }
+    ensures before_store { IsTrue T.tells → EndsInTree (refusal_over_before_store rooms.items words.now (T.content tree.old)) result.answer }
+    ensures words { AnswersWordsOver rooms.items (wanted_word words.now) result.answer }
+    ensures whole { IsTrue T.tells → IsTrue S.tells → IsTrue K.tells → result.answer ≡ Answer.Done → IsWhole R.Ways.tells R.Ways.runs words.now (T.content tree.old) (S.content store) (S.content result.store) (begun_in_first R.begun rooms.items) (begun_in_first R.begun result.rooms.items) (K.written out.old) (K.written out.new) result.status }
     ensures done { IsTrue T.tells → IsTrue S.tells → refusal_over rooms.items words.now (T.content tree.old) (S.content store) ≡ None → result.answer ≢ Answer.NoMemory → HaveNotRisen (T.faults tree.old) (T.faults tree.new) (S.faults store) (S.faults result.store) (faults_of_first R.faults rooms.items) (faults_of_first R.faults result.rooms.items) (K.faults out.old) (K.faults out.new) → result.answer ≡ Answer.Done }
-    ensures same { is_refusal result.answer ≡ true → IsUnchanged (S.content store) (S.content result.store) (S.journal store) (S.journal result.store) }
-    ensures idle { is_refusal result.answer ≡ true → begun_in_first R.begun result.rooms.items ≡ begun_in_first R.begun rooms.items }
+    ensures same { leaves_store result.answer ≡ true → IsUnchanged (S.content store) (S.content result.store) (S.journal store) (S.journal result.store) }
+    ensures idle { leaves_rooms result.answer ≡ true → begun_in_first R.begun result.rooms.items ≡ begun_in_first R.begun rooms.items }
+    ensures kept { told_refusal_over rooms.items T.tells S.tells words.now (T.content tree.old) (S.content store) ≢ None → IsUnchanged (S.content store) (S.content result.store) (S.journal store) (S.journal result.store) }
+    ensures still { told_refusal_over rooms.items T.tells S.tells words.now (T.content tree.old) (S.content store) ≢ None → begun_in_first R.begun result.rooms.items ≡ begun_in_first R.begun rooms.items }
+    ensures left { IsTrue T.tells → IsTrue S.tells → (S.content result.store ≡ S.content store) ⊎ HasStoredWanted R.Ways.tells R.Ways.runs words.now (T.content tree.old) (S.content store) (S.content result.store) }
+    ensures finished { IsTrue T.tells → IsTrue S.tells → result.answer ≡ Answer.SinkFault → HasStoredWanted R.Ways.tells R.Ways.runs words.now (T.content tree.old) (S.content store) (S.content result.store) }
     ensures cause { IsBlamed result.answer (T.faults tree.old) (T.faults tree.new) (S.faults store) (S.faults result.store) (faults_of_first R.faults rooms.items) (faults_of_first R.faults result.rooms.items) (K.faults out.old) (K.faults out.new) }
     ensures status { IsStatusOf result.answer result.status }
     ensures begun { GrewByOne (begun_in_first R.begun rooms.items) (begun_in_first R.begun result.rooms.items) }
+    ensures name { IsTrue T.tells → BeganAtMost (wanted_job words.now (T.content tree.old)) (begun_in_first R.begun rooms.items) (begun_in_first R.begun result.rooms.items) }
     ensures rooms { vec_len result.rooms ≡ vec_len rooms }
     ensures others { drop 1 result.rooms.items ≡ drop 1 rooms.items }
     ensures line { IsTrue K.tells → result.answer ≢ Answer.Done → result.answer ≢ Answer.NoMemory → (Rose (K.faults out.old) (K.faults out.new) → ⊥) → K.written out.new ≡ K.written out.old ++ answer_line result.answer }
