@@ -79,9 +79,8 @@ const CASES: &[u8] = br":|(|||-
 :||etc/make.conf|a.pkg|etc/make.conf
 :|||a.pkg|)
 :||ports/a/x/files/LARGE||)
-:|(|ports/a/x/files/LARGE|a.pkg|ports/a/x/files/LARGE
-:|(|ports/a/x/files/b/LARGE ports/a/x/files/a/LARGE||ports/a/x/files/a/LARGE
-:|(|ports/a/x/files/FULL ports/a/y/files/LARGE||-
+:|(|ports/a/x/files/b/LARGE ports/a/x/files/a/LARGE|a.pkg|ports/a/x/files/a/LARGE
+:|(|ports/a/x/files/FULL ports/a/y/files/b||-
 bulk a/y|(|||!poudriere: no origin a/y
 bulk a|(|||!poudriere: no origin a
 bulk a/x/y|(|||!poudriere: no origin a/x/y
@@ -170,56 +169,92 @@ fn texts(alloc: Global, words: &[u8]) -> Result<Texts, Fail> {
     Ok(texts)
 }
 
-/// What a run with these words over these files prints.
-fn printed(alloc: Global, words: &[u8], files: Files, items: Items) -> Result<Vec<u8>, Fail> {
-    let words = texts(alloc, words)?;
-    let mut tree = MemTree::new(alloc, files, Sequence::new(alloc))?;
-    let mut store = MemStore::new(alloc, items, Sequence::new(alloc))?;
+/// The fields of a case.
+#[derive(Clone, Copy, Drop)]
+struct Case<'a> {
+    words: &'a [u8],
+    description: &'a [u8],
+    paths: &'a [u8],
+    names: &'a [u8],
+    answer: &'a [u8],
+}
+
+fn case_of(line: &[u8]) -> Case<'_> {
+    let mut fields = line.split(|b| *b == b'|');
+    Case {
+        words: fields.next().unwrap_or_default(),
+        description: fields.next().unwrap_or_default(),
+        paths: fields.next().unwrap_or_default(),
+        names: fields.next().unwrap_or_default(),
+        answer: fields.next().unwrap_or_default(),
+    }
+}
+
+fn tree_of(alloc: Global, case: &Case<'_>) -> Result<MemTree, Fail> {
+    let mut files = Sequence::new(alloc);
+    let description = decoded(alloc, case.description)?;
+    add_file(alloc, &mut files, b"ports/a/x/port.vars", description)?;
+    add_files(alloc, &mut files, case.paths)?;
+    Ok(MemTree::new(alloc, files, Sequence::new(alloc))?)
+}
+
+fn store_of(alloc: Global, case: &Case<'_>) -> Result<MemStore, Fail> {
+    let items = stored(alloc, case.names)?;
+    Ok(MemStore::new(alloc, items, Sequence::new(alloc))?)
+}
+
+/// What a run with these words over a tree and a store prints.
+fn printed(alloc: Global, words: &[Text], tree: MemTree, store: MemStore) -> Result<Vec<u8>, Fail> {
+    let mut tree = tree;
+    let mut store = store;
     let mut room = MemRoom::new(alloc, Sequence::new(alloc))?;
     let mut out = MemSink::new(alloc, Sequence::new(alloc))?;
-    bulk_alone(
-        alloc,
-        words.as_slice(),
-        &mut tree,
-        &mut store,
-        &mut room,
-        &mut out,
-    );
+    bulk_alone(alloc, words, &mut tree, &mut store, &mut room, &mut out);
     Ok(Vec::from_slice(alloc, out.written())?)
 }
 
-/// What a case wants printed; for lists their first line.
-fn wanted(alloc: Global, answer: &[u8]) -> Result<Vec<u8>, Fail> {
-    let mut text = Vec::new(alloc);
-    match answer {
-        [b'-'] => text.extend_from_slice(b"deleted 0\n".as_slice())?,
-        [b'!', line @ ..] => {
-            text.extend_from_slice(line)?;
-            text.push(b'\n')?;
-        }
-        path => {
-            text.extend_from_slice(b"poudriere: ".as_slice())?;
-            text.extend_from_slice(decoded(alloc, path)?.as_slice())?;
-            text.extend_from_slice(b": not yet\n".as_slice())?;
-        }
-    }
+fn ran(alloc: Global, case: &Case<'_>) -> Result<Vec<u8>, Fail> {
+    let words = texts(alloc, decoded(alloc, case.words)?.as_slice())?;
+    let tree = tree_of(alloc, case)?;
+    let store = store_of(alloc, case)?;
+    printed(alloc, words.as_slice(), tree, store)
+}
+
+/// A path that is not served yet, as it is printed.
+fn not_yet(alloc: Global, path: &[u8]) -> Result<Vec<u8>, AllocError> {
+    let mut text = Vec::from_slice(alloc, b"poudriere: ")?;
+    text.extend_from_slice(decoded(alloc, path)?.as_slice())?;
+    text.extend_from_slice(b": not yet\n".as_slice())?;
     Ok(text)
+}
+
+fn line(alloc: Global, text: &[u8]) -> Result<Vec<u8>, AllocError> {
+    let mut line = Vec::from_slice(alloc, text)?;
+    line.push(b'\n')?;
+    Ok(line)
+}
+
+/// What a case wants printed; for lists their first line.
+fn wanted(alloc: Global, answer: &[u8]) -> Result<Vec<u8>, AllocError> {
+    match answer {
+        [b'-'] => line(alloc, b"deleted 0"),
+        [b'!', text @ ..] => line(alloc, text),
+        path => not_yet(alloc, path),
+    }
+}
+
+fn holds(alloc: Global, case: &[u8]) -> Result<bool, Fail> {
+    let case = case_of(case);
+    let found = ran(alloc, &case)?;
+    let want = wanted(alloc, case.answer)?;
+    Ok(found.starts_with(want.as_slice()))
 }
 
 #[test]
 fn the_first_refusal_is_printed(rt: HostRuntime) -> Result<(), Fail> {
     let alloc = rt.alloc();
     for case in CASES.split(|b| *b == b'\n') {
-        let mut fields = case.split(|b| *b == b'|');
-        let words = decoded(alloc, fields.next().unwrap_or_default())?;
-        let description = decoded(alloc, fields.next().unwrap_or_default())?;
-        let mut files = Sequence::new(alloc);
-        add_file(alloc, &mut files, b"ports/a/x/port.vars", description)?;
-        add_files(alloc, &mut files, fields.next().unwrap_or_default())?;
-        let items = stored(alloc, fields.next().unwrap_or_default())?;
-        let want = wanted(alloc, fields.next().unwrap_or_default())?;
-        let found = printed(alloc, words.as_slice(), files, items)?;
-        assert!(rt; found.starts_with(want.as_slice()));
+        assert!(rt; holds(alloc, case)?);
     }
     Ok(())
 }
