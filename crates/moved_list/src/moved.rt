@@ -1,9 +1,8 @@
 // The list of moved ports, and its reader.
-ghost use Rattle.std.specs.Prelude.{◌≡◌, ◌≢◌, ◌<◌, ◌^◌, ◌++◌, ◌∷◌, ℕ, List, All, [], length, slice_index_or, true, IsTrue, IfOk, IfErr, OnOk};
+ghost use Rattle.std.specs.Prelude.{◌≡◌, ◌≢◌, ◌<◌, ◌^◌, ◌++◌, ◌∷◌, ℕ, List, All, [], length, slice_index_or, true, IfOk, IfErr, OnOk};
 ghost use Rattle.std.specs.Option.{option_copied};
 ghost use Rattle.std.specs.FinMap as map;
 ghost use Rattle.bulk_base.specs.Lines.{cut_at, IsSpanWithin};
-ghost use Rattle.bulk_base.specs.Text.{IsText};
 ghost use Rattle.moved_list.specs.Lines as lines_of;
 ghost use Rattle.moved_list.specs.Moved.{entries, moved_of, last_line, IsPlaceOf};
 

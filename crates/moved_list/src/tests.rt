@@ -110,6 +110,9 @@ fn printed(alloc: Global, answer: Follow) -> Result<Vec<u8>, Fail> {
 
 /// What a file answers for a name, in the form of a case's answer.
 fn answer(alloc: Global, file: &[u8], name: &[u8], names: &[u8]) -> Result<Vec<u8>, Fail> {
+    if file.len() > 1_000 {
+        return Err(Fail::new("a long file"));
+    }
     match read_moved(alloc, file) {
         Ok(moved) => printed(
             alloc,
