@@ -1,0 +1,9 @@
+-- The layers as sets of names.
+use Rattle.std.specs.Prelude.{ℕ, Bool, List}
+use Rattle.port_name.specs.Sets.{is_among}
+use Rattle.option_set.specs.declared.stack.Stack.{Stack}
+use Rattle.option_set.specs.Layers.{layered}
+
+-- a name after the layers
+abbrev pub on_in : Stack → List ℕ → Bool
+on_in s name = layered s.file.set s.file.unset (layered s.port.set s.port.unset (layered s.global.set s.global.unset (is_among s.default name) name) name) name

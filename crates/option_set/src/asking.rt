@@ -1,0 +1,32 @@
+// The options that are asked for.
+ghost use Rattle.std.specs.Prelude.{◌≡◌, IfOk};
+ghost use Rattle.option_set.specs.Layers as layers_of;
+
+use crate::layers::Layers;
+use crate::stack::Stack;
+use bulk_base::{NoMemory, Sequence, Switch, Switches, Texts};
+use std::alloc::Global;
+
+/// Each option of a list with whether it is on after the port's default and the layers above it, in the list's order: on by
+/// the last layer that names it, and off where that layer names it both on and off (bsd.options.mk). Names that are not in
+/// the list are ignored.
+///
+/// NoMemory for want of memory alone. O(log n) comparisons for each of the n words.
+pub fn asked(
+    alloc: Global,
+    options: &Texts,
+    default: &Texts,
+    layers: &Layers,
+) -> Result<Switches, NoMemory>
+    ensures { IfOk result (λ switches. switches ≡ layers_of.asked options.now default.now layers.now) }
+{
+    let stack = Stack::new(alloc, default, layers)?;
+    let mut found = Sequence::new(alloc);
+    for name in options.as_slice() {
+        found.push(Switch {
+            name: name.copy(alloc)?,
+            on: stack.turns_on(name),
+        })?;
+    }
+    Ok(found)
+}

@@ -1,0 +1,6 @@
+pub mod Places
+pub mod SetView
+pub mod Plain
+pub mod Origins
+pub mod Sizes
+pub mod Spelled

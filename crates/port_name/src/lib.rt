@@ -1,0 +1,17 @@
+//! Names of ports: origins, flavors, nodes and packages, with the first part that is outside its form, and sets of names.
+#![tactic(auto)]
+
+mod fault;
+mod form;
+mod names;
+mod package;
+mod place;
+#[cfg(test)]
+mod tests;
+mod word;
+
+pub use fault::{NameError, NamePart};
+pub use names::Names;
+pub use package::{NameParts, pkgname};
+pub use place::Origin;
+pub use word::{flavor, is_node, origin};
