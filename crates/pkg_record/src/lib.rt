@@ -1,0 +1,6 @@
+//! The package record, both ways: the bytes that a store keeps of a package.
+#![tactic(auto)]
+
+mod record_writer;
+
+pub use record_writer::write;
