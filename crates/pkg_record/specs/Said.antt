@@ -43,8 +43,11 @@ count_behind heading text = option_and_then count_of (behind heading text)
 abbrev pub switch_of : List ℕ → Option Bool
 switch_of word = if bytes_eq word (codes "on") then Some true else if bytes_eq word (codes "off") then Some false else None
 
+abbrev pub switch : List ℕ → Bool → Switch
+switch name on = record { name = name; on = on }
+
 abbrev pub named_switch : List ℕ → Bool → Option Switch
-named_switch name on = if is_option_name name then Some (record { name = name; on = on }) else None
+named_switch name on = if is_option_name name then Some (switch name on) else None
 
 -- an option and, behind a space, whether it is on
 abbrev pub switch_in : List ℕ → Option Switch
@@ -53,7 +56,7 @@ switch_in words = option_and_then (named_switch (front 32 words)) (switch_of (ba
 abbrev pub option_said : List ℕ → Option Switch
 option_said text = option_and_then switch_in (behind (codes "option ") text)
 
-abbrev pub kind_of : List ℕ → Option DepKind
+unfoldable pub kind_of : List ℕ → Option DepKind
 kind_of word =
     if bytes_eq word (codes "pkg") then Some Pkg
     else if bytes_eq word (codes "fetch") then Some Fetch
@@ -64,8 +67,11 @@ kind_of word =
     else if bytes_eq word (codes "run") then Some Run
     else None
 
+abbrev pub depend : DepKind → List ℕ → List ℕ → Depend
+depend kind node name = record { kind = kind; node = node; name = name }
+
 abbrev pub named_depend : List ℕ → List ℕ → DepKind → Option Depend
-named_depend node name kind = if is_node node && is_package_name name then Some (record { kind = kind; node = node; name = name }) else None
+named_depend node name kind = if is_node node && is_package_name name then Some (depend kind node name) else None
 
 -- a kind, a node and a package's name, with spaces between
 abbrev pub depend_in : List ℕ → Option Depend

@@ -3,7 +3,9 @@
 
 mod fault;
 mod forms;
+mod item_reader;
 mod line_reader;
+mod list_reader;
 mod record_writer;
 mod words;
 

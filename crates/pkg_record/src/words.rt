@@ -1,6 +1,8 @@
 // What the text of a line says, where it fits.
-ghost use Rattle.std.specs.Prelude.{◌≡◌, codes};
+ghost use Rattle.std.specs.Prelude.{◌≡◌, codes, IsTrue, IfSome};
 ghost use Rattle.std.specs.Option.{option_map, option_copied};
+ghost use Rattle.bulk_base.specs.Names.{is_option_name};
+ghost use Rattle.pkg_record.specs.Forms;
 ghost use Rattle.pkg_record.specs.Said as said;
 
 use crate::forms::{cut, is_flavor, is_node, is_option_name, is_package_name};
@@ -69,6 +71,7 @@ fn switch_of(word: &[u8]) -> Option<bool>
 }
 
 /// The kind of a dependency that a word names.
+#[tactic(auto, unfolding(crate::specs::Said::kind_of))]
 fn kind_of(word: &[u8]) -> Option<DepKind>
     ensures { result ≡ said.kind_of word.now }
 {
@@ -88,5 +91,84 @@ fn kind_of(word: &[u8]) -> Option<DepKind>
         Some(DepKind::Run)
     } else {
         None
+    }
+}
+
+/// An option's name and whether it is on.
+fn switch_in(words: &[u8]) -> Option<(&[u8], bool)>
+    ensures read { option_map (λ x. said.switch x.0.now x.1) result ≡ said.switch_in words.now }
+    ensures form { IfSome result (λ x. IsTrue (is_option_name x.0.now)) }
+{
+    let (name, word) = cut(b' ', words);
+    match switch_of(word) {
+        Some(on) if is_option_name(name) => Some((name, on)),
+        _ => None,
+    }
+}
+
+/// What an option's line says.
+pub(crate) fn option_said(text: &[u8]) -> Option<(&[u8], bool)>
+    ensures read { option_map (λ x. said.switch x.0.now x.1) result ≡ said.option_said text.now }
+    ensures form { IfSome result (λ x. IsTrue (is_option_name x.0.now)) }
+{
+    match behind(b"option ", text) {
+        Some(words) => switch_in(words),
+        None => None,
+    }
+}
+
+fn named_depend<'a>(
+    node: &'a [u8],
+    name: &'a [u8],
+    kind: DepKind,
+) -> Option<(DepKind, &'a [u8], &'a [u8])>
+    ensures read { option_map (λ x. said.depend x.0 x.1.now x.2.now) result ≡ said.named_depend node.now name.now kind }
+    ensures node { IfSome result (λ x. IsTrue (Forms.is_node x.1.now)) }
+    ensures name { IfSome result (λ x. IsTrue (Forms.is_package_name x.2.now)) }
+{
+    if is_node(node) && is_package_name(name) {
+        Some((kind, node, name))
+    } else {
+        None
+    }
+}
+
+/// A dependency's kind, its node and the name of that node's package.
+fn depend_in(words: &[u8]) -> Option<(DepKind, &[u8], &[u8])>
+    ensures read { option_map (λ x. said.depend x.0 x.1.now x.2.now) result ≡ said.depend_in words.now }
+    ensures node { IfSome result (λ x. IsTrue (Forms.is_node x.1.now)) }
+    ensures name { IfSome result (λ x. IsTrue (Forms.is_package_name x.2.now)) }
+{
+    let (word, rest) = cut(b' ', words);
+    let (node, name) = cut(b' ', rest);
+    match kind_of(word) {
+        Some(kind) => named_depend(node, name, kind),
+        None => None,
+    }
+}
+
+/// What a dependency's line says.
+pub(crate) fn depend_said(text: &[u8]) -> Option<(DepKind, &[u8], &[u8])>
+    ensures read { option_map (λ x. said.depend x.0 x.1.now x.2.now) result ≡ said.depend_said text.now }
+    ensures node { IfSome result (λ x. IsTrue (Forms.is_node x.1.now)) }
+    ensures name { IfSome result (λ x. IsTrue (Forms.is_package_name x.2.now)) }
+{
+    match behind(b"depend ", text) {
+        Some(words) => depend_in(words),
+        None => None,
+    }
+}
+
+/// The length and the path that a file's line says.
+pub(crate) fn file_said(text: &[u8]) -> Option<(u64, &[u8])>
+    ensures { option_map (λ x. (x.0, x.1.now)) result ≡ said.file_said text.now }
+{
+    let Some(words) = behind(b"file ", text) else {
+        return None;
+    };
+    let (digits, path) = cut(b' ', words);
+    match count_of(digits) {
+        Some(size) => Some((size, path)),
+        None => None,
     }
 }
