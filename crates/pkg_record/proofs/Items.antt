@@ -1,5 +1,5 @@
 -- Items read one behind another, as a loop reads them.
-use Rattle.std.proofs.Common.{◌≡◌, ℕ, ◌+◌, ◌-◌, ◌<◌, ◌≤◌, suc, List, [], ◌∷◌, ◌++◌, Result, Ok, Err, arith, refl, sym, ◌∙◌}
+use Rattle.std.proofs.Common.{◌≡◌, ℕ, ◌+◌, ◌-◌, ◌<◌, ◌≤◌, suc, List, [], ◌∷◌, ◌++◌, Result, Ok, Err, arith, refl, ap, sym, ◌∙◌}
 use Rattle.pkg_record.specs.declared.fault.Fault.{Fault}
 use Rattle.pkg_record.specs.declared.fault.ReadError.{ReadError}
 use Rattle.pkg_record.specs.declared.fault.ReadError.TheVariants as errors
@@ -28,3 +28,6 @@ module _ {X : Type 0} (item : List X → List ℕ → Result (X × List ℕ) Fau
       let k : count - i ≡ 0 = omega arith in
       let one : items_at item (count - i) before bytes ≡ Ok (before, bytes) = rw k refl in
       sym so_far ∙ one
+
+pub begins : {X : Type 0} (item : List X → List ℕ → Result (X × List ℕ) Fault) (count : ℕ) (bytes : List ℕ) → items_at item (count - 0) [] bytes ≡ items_at item count [] bytes
+begins item count bytes = ap (λ n. items_at item n [] bytes) (omega arith)

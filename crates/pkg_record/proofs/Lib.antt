@@ -6,3 +6,4 @@ pub mod Folders
 pub mod NextPath
 pub mod Items
 pub mod NoItems
+pub mod HexDigits

@@ -53,7 +53,7 @@ option_byte b h = grind (arith, nat_tests)
 digit_byte : (b : ℕ) → is_digit b ≡ true → is_visible b ≡ true
 digit_byte b h = grind (arith, nat_tests)
 
-hex_byte : (b : ℕ) → is_hex_byte b ≡ true → is_visible b ≡ true
+pub hex_byte : (b : ℕ) → is_hex_byte b ≡ true → is_visible b ≡ true
 hex_byte b h = grind (arith, nat_tests)
 
 pub port_name : (name : List ℕ) → is_port_name name ≡ true → (0 < length name) × (is_plain name ≡ true)

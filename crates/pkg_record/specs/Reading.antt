@@ -17,6 +17,8 @@ use Rattle.pkg_record.specs.declared.fault.Fault.{Fault}
 use Rattle.pkg_record.specs.declared.fault.Fault.TheVariants.{Short, Misfit}
 use Rattle.pkg_record.specs.declared.fault.ReadError.{ReadError}
 use Rattle.pkg_record.specs.declared.fault.ReadError.TheVariants as errors
+use Rattle.pkg_record.specs.declared.fault.RecordError.{RecordError}
+use Rattle.pkg_record.specs.declared.fault.RecordError.TheVariants as records
 use Rattle.pkg_record.specs.Forms.{is_mark, front, back, is_origin, is_package_name, is_digest}
 use Rattle.pkg_record.specs.Said.{behind, passing, word_behind, flavor_said, count_behind, option_said, depend_said, file_said}
 
@@ -128,13 +130,25 @@ pub record Signed : Type 0 where
   pub stated : List ℕ
   pub size : ℕ
 
+abbrev pub signed : PackageView → List ℕ → ℕ → Signed
+signed read stated size = record { read = read; stated = stated; size = size }
+
 -- all of the bytes: nothing may stand behind the digest's line
 unfoldable pub signed_at : List ℕ → Result Signed Fault
 signed_at bytes = do
   p ← unsigned_at bytes
   digest ← said_at (word_behind (codes "sha256 ") is_digest) p.1
-  if length digest.1 == 0 then Ok (record { read = p.0; stated = digest.0; size = length bytes - length p.1 }) else Err (Misfit (length digest.1))
+  if length digest.1 == 0 then Ok (signed p.0 digest.0 (length bytes - length p.1)) else Err (Misfit (length digest.1))
 
 -- the digest of the first bytes
 abbrev pub digest_of : ℕ → List ℕ → List ℕ
 digest_of size bytes = encode_lower (sha256 (take size bytes))
+
+-- what a record gives
+unfoldable pub judged : List ℕ → Result Signed Fault → Result PackageView RecordError
+judged bytes (Err Short) = Err records.Short
+judged bytes (Err (Misfit left)) = Err (records.BadField (length bytes - left))
+judged bytes (Ok s) = if bytes_eq s.stated (digest_of s.size bytes) then Ok s.read else Err (records.BadDigest s.stated (digest_of s.size bytes))
+
+abbrev pub record_of : List ℕ → Result PackageView RecordError
+record_of bytes = judged bytes (signed_at bytes)

@@ -6,7 +6,10 @@ mod forms;
 mod item_reader;
 mod line_reader;
 mod list_reader;
+mod record_reader;
 mod record_writer;
 mod words;
 
+pub use fault::RecordError;
+pub use record_reader::read;
 pub use record_writer::write;
