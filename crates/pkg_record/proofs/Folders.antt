@@ -1,5 +1,5 @@
 -- Searches among files in order of their paths, and files of which none is a folder of a path.
-use Rattle.std.proofs.Common.{◌≡◌, ◌↔◌, ℕ, ◌+◌, ◌<◌, Bool, true, false, not, List, [], ◌∷◌, ◌++◌, length, get_or, map, take, drop, IsTrue, Contains, arith, sym, ap, subst, refl, ◌∙◌, inl, inr, ⊎_elim, ◌⊎◌, suc}
+use Rattle.std.proofs.Common.{◌≡◌, ◌↔◌, ℕ, ◌+◌, ◌<◌, true, false, not, List, [], ◌∷◌, ◌++◌, length, get_or, take, drop, IsTrue, Contains, arith, sym, ap, subst, refl, ◌∙◌, inl, inr, ⊎_elim, ◌⊎◌, suc}
 use Rattle.std.specs.Prelude.{Result, Ok, Err}
 use Rattle.std.specs.declared.cmp.Ordering.TheVariants.{Less, Equal, Greater}
 use Rattle.std.specs.Ordering.{is_lt, is_eq, nat_cmp, ordering_reverse}
@@ -84,4 +84,3 @@ begins_below path k l e =
 -- a folder of the path is among the paths
 pub one_above : (paths : List (List ℕ)) (path : List ℕ) (k : ℕ) → k < length path → get_or path k 0 ≡ 47 → Contains paths (take k path) → list_all (λ folder. not (is_below folder path)) paths ≡ false
 one_above paths path k l e c = list_all_at (λ folder. not (is_below folder path)) paths c.0 (take k path) c.1 (ap (λ f. not (is_below f path)) c.2 ∙ ap not (begins_below path k l e))
-

@@ -3,7 +3,7 @@ use Rattle.std.proofs.Common.{◌≡◌, ℕ, ◌+◌, ◌-◌, ◌<◌, ◌≤�
 use Rattle.pkg_record.specs.declared.fault.Fault.{Fault}
 use Rattle.pkg_record.specs.declared.fault.ReadError.{ReadError}
 use Rattle.pkg_record.specs.declared.fault.ReadError.TheVariants as errors
-use Rattle.pkg_record.specs.Reading.{◌>>=◌, Fails, items_at}
+use Rattle.pkg_record.specs.Reading.{Fails, items_at}
 
 module _ {X : Type 0} (item : List X → List ℕ → Result (X × List ℕ) Fault) (count i : ℕ) (before : List X) (bytes : List ℕ) (total : Result (List X × List ℕ) Fault) where
   pub goes_on : (x : X) (after : List ℕ) → i < count → item before bytes ≡ Ok (x, after)

@@ -1,6 +1,6 @@
 -- A list in form stays in form with one more item behind its last.
-use Rattle.std.proofs.Common.{◌≡◌, ℕ, ◌+◌, ◌-◌, ◌<◌, ◌≤◌, Bool, true, false, List, [], ◌∷◌, ◌++◌, length, get_or, map, arith, refl, ap, sym, ◌∙◌, inl, inr, zero, suc}
-use Rattle.std.specs.Prelude.{◌⊎◌, ◌&&◌, not, nat_le, slice_get, IsTrue}
+use Rattle.std.proofs.Common.{◌≡◌, ℕ, ◌+◌, ◌-◌, ◌<◌, ◌≤◌, Bool, true, List, [], ◌∷◌, ◌++◌, length, get_or, map, arith, refl, ap, sym, ◌∙◌, inl, inr, suc}
+use Rattle.std.specs.Prelude.{◌⊎◌, ◌&&◌, not, nat_le}
 use Rattle.std.specs.declared.cmp.Ordering.{Ordering}
 use Rattle.std.specs.declared.cmp.Ordering.TheVariants.{Less, Equal, Greater}
 use Rattle.std.specs.Ordering.{is_lt, nat_cmp, ordering_then, ordering_reverse}
@@ -18,7 +18,7 @@ use Rattle.std.proofs.Math.Seq.{get_or-append_seam}
 use Rattle.bulk_base.specs.declared.file.FileItem.{FileItem}
 use Rattle.bulk_base.specs.declared.file.Switch.{Switch}
 use Rattle.bulk_base.specs.Names.{is_option_name, IsNode, IsPackageName}
-use Rattle.bulk_base.specs.Path.{is_below, joined}
+use Rattle.bulk_base.specs.Path.{is_below}
 use Rattle.bulk_base.proofs.Paths.{below_is_joined}
 use Rattle.bulk_model.specs.declared.depend.Depend.{Depend}
 use Rattle.bulk_model.specs.Facts.{IsOptionList, IsDependList, IsFileList, paths_of, comes_before, each_before}

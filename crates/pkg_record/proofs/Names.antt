@@ -1,15 +1,15 @@
 -- Names that pass the tests have the forms, and are made of bytes that neither end a line nor a word.
 use Rattle.std.proofs.Common.{◌≡◌, ℕ, ◌+◌, ◌<◌, ◌≤◌, Bool, true, false, List, [], ◌∷◌, ◌++◌, length, get_or, take, drop, arith, refl, ap, sym, ◌∙◌, inl, inr, zero, suc, append_assoc, append-nil}
-use Rattle.std.specs.Prelude.{◌⊎◌, ◌&&◌, ◌||◌, ◌==◌, nat_lt, nat_le, Option, Some, None, cond, IsTrue, IfSome}
+use Rattle.std.specs.Prelude.{◌⊎◌, ◌&&◌, ◌||◌, ◌==◌, nat_lt, nat_le, Option, Some, None, IsTrue, IfSome}
 use Rattle.std.specs.Option.{option_map_or}
 use Rattle.std.specs.List.{list_all, position_or_len}
-use Rattle.std.proofs.lemmas.Bool.{cases_lt, cases_Bool, eqb-true}
+use Rattle.std.proofs.lemmas.Bool.{eqb-true}
 use Rattle.std.proofs.lemmas.Bool.Decides.{nat_tests}
 use Rattle.std.proofs.lemmas.List.{length-drop, take-append-drop, drop_more}
 use Rattle.std.proofs.lemmas.List.Folds.{list_all-append}
 use Rattle.std.proofs.lemmas.List.Sums.{split_at_first, passes_at_first}
 use Rattle.bulk_base.specs.Names.{is_between, is_digit, is_lower, is_alphanumeric, is_made_of, is_port_byte, is_port_name, is_flavor, is_version, is_shown_number, is_option_name, IsOrigin, IsNode, IsPackageName}
-use Rattle.bulk_base.specs.Text.{is_text, is_plain_text, is_text_byte}
+use Rattle.bulk_base.specs.Text.{is_text, is_text_byte}
 use Rattle.bulk_base.proofs.Paths.{is_text-plain}
 use Rattle.pkg_record.specs.Forms.{is_mark, front, back, is_origin, is_node, is_revised, is_full_version, is_parted_at, some_below, is_package_name, is_hex_byte, is_digest}
 

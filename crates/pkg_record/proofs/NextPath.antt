@@ -1,6 +1,6 @@
 -- The path that a file may have behind the files before it.
-use Rattle.std.proofs.Common.{◌≡◌, ℕ, ◌≤◌, Bool, true, false, List, length, arith, refl, ap, sym, ◌∙◌, inl, inr}
-use Rattle.std.specs.Prelude.{◌&&◌, not, nat_le, Option, Some, None, cond, unwrap_or, ◌⊎◌}
+use Rattle.std.proofs.Common.{◌≡◌, ℕ, ◌≤◌, Bool, true, false, List, length, arith, ap, sym, ◌∙◌, inl, inr}
+use Rattle.std.specs.Prelude.{◌&&◌, not, nat_le, Some, None, cond, unwrap_or, ◌⊎◌}
 use Rattle.std.specs.List.{list_all}
 use Rattle.std.proofs.lemmas.Bool.{cases_Bool, and_parts}
 use Rattle.std.proofs.lemmas.Bool.Decides.{nat_tests}

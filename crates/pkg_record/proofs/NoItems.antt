@@ -1,5 +1,5 @@
 -- The empty lists are in form.
-use Rattle.std.proofs.Common.{List, ℕ, [], refl}
+use Rattle.std.proofs.Common.{ℕ, [], refl}
 use Rattle.std.specs.List.Sorted.{IsStrictlySortedBy}
 use Rattle.std.specs.Cmp.Lexicographic.{slice_cmp}
 use Rattle.std.specs.Ordering.{nat_cmp}

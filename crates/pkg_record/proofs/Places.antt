@@ -1,11 +1,11 @@
 -- The first place at which a list's element passes a test, and tests at places below a bound.
-use Rattle.std.proofs.Common.{◌≡◌, ℕ, ◌+◌, ◌≤◌, ◌<◌, Bool, true, false, List, length, ltb, Some, None, arith, refl, ap, ◌∙◌, inl, inr, zero, suc}
-use Rattle.std.specs.Prelude.{cond, ◌||◌}
+use Rattle.std.proofs.Common.{◌≡◌, ℕ, ◌+◌, ◌≤◌, ◌<◌, Bool, true, false, List, length, ltb, Some, None, arith, ap, ◌∙◌, inl, inr, zero, suc}
+use Rattle.std.specs.Prelude.{cond}
 use Rattle.std.specs.List.{position_or_len}
 use Rattle.std.proofs.lemmas.Bool.{cases_lt}
 use Rattle.std.proofs.lemmas.Bool.Decides.{nat_tests}
 use Rattle.std.proofs.lemmas.List.Sums.{prefix_len-le-length}
-use Rattle.pkg_record.specs.Forms.{is_mark, some_below}
+use Rattle.pkg_record.specs.Forms.{some_below}
 
 pub place_some : (n k i : ℕ) → cond (ltb n k) (Some n) None ≡ Some i → (i ≡ n) × (i ≤ k)
 place_some n k i e = grind (arith, nat_tests)

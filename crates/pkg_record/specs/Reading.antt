@@ -1,6 +1,6 @@
 -- A record read from left to right, with the first line or piece that does not fit (docs/FORMATS.md).
 use Rattle.std.specs.Prelude.{◌≡◌, ℕ, zero, suc, Bool, true, not, ◌+◌, ◌-◌, ◌&&◌, ◌==◌, nat_lt, nat_le, List, [], ◌∷◌, ◌++◌, length, take, drop, codes, slice_index, slice_get, bytes_eq, Option, Some, None, Result, Ok, Err, if◌then◌else◌}
-use Rattle.std.specs.Option.{option_map, option_and_then}
+use Rattle.std.specs.Option.{option_and_then}
 use Rattle.std.specs.List.{list_all, position_or_len}
 use Rattle.std.specs.Ordering.{nat_cmp, is_lt}
 use Rattle.std.specs.Cmp.Lexicographic.{slice_cmp}
@@ -20,7 +20,7 @@ use Rattle.pkg_record.specs.declared.fault.ReadError.TheVariants as errors
 use Rattle.pkg_record.specs.declared.fault.RecordError.{RecordError}
 use Rattle.pkg_record.specs.declared.fault.RecordError.TheVariants as records
 use Rattle.pkg_record.specs.Forms.{is_mark, front, back, is_origin, is_package_name, is_digest}
-use Rattle.pkg_record.specs.Said.{behind, passing, word_behind, flavor_said, count_behind, option_said, depend_said, file_said}
+use Rattle.pkg_record.specs.Said.{passing, word_behind, flavor_said, count_behind, option_said, depend_said, file_said}
 
 infixl 10 ◌>>=◌
 abbrev pub ◌>>=◌ : {A B : Type 0} → Result A Fault → (A → Result B Fault) → Result B Fault

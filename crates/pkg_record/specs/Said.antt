@@ -1,5 +1,5 @@
 -- What the text of each line of a record says, where it fits (docs/FORMATS.md).
-use Rattle.std.specs.Prelude.{ℕ, Bool, true, false, not, ◌<◌, ◌^◌, ◌&&◌, ◌||◌, ◌==◌, nat_eq, nat_lt, nat_le, List, length, drop, codes, slice_index, Option, Some, None, bytes_eq, if◌then◌else◌}
+use Rattle.std.specs.Prelude.{ℕ, Bool, true, false, not, ◌^◌, ◌&&◌, ◌||◌, ◌==◌, nat_eq, nat_lt, List, length, drop, codes, slice_index, Option, Some, None, bytes_eq, if◌then◌else◌}
 use Rattle.std.specs.Option.{option_map, option_and_then}
 use Rattle.std.specs.List.{list_all, starts_with}
 use Rattle.std.specs.Char.{is_ascii_digit}
@@ -9,7 +9,7 @@ use Rattle.bulk_base.specs.declared.file.Switch.{Switch}
 use Rattle.bulk_model.specs.declared.depend.Depend.{Depend}
 use Rattle.bulk_model.specs.declared.depend.DepKind.{DepKind}
 use Rattle.bulk_model.specs.declared.depend.DepKind.TheVariants.{Pkg, Fetch, Extract, Patch, Build, Lib, Run}
-use Rattle.pkg_record.specs.Forms.{front, back, is_origin, is_node, is_package_name, is_digest}
+use Rattle.pkg_record.specs.Forms.{front, back, is_node, is_package_name}
 
 -- what follows a heading
 abbrev pub behind : List ℕ → List ℕ → Option (List ℕ)

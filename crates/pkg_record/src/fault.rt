@@ -2,7 +2,6 @@
 ghost use Rattle.std.specs.Prelude.{◌≡◌, length};
 ghost use Rattle.pkg_record.specs.declared.fault.ReadError.TheVariants.{Memory, Found};
 ghost use Rattle.pkg_record.specs.declared.fault.Fault.TheVariants.{Misfit};
-
 ghost use Rattle.pkg_record.specs.declared.fault.RecordError.TheVariants.{NoMemory as Refused};
 
 use bulk_base::Text;

@@ -43,7 +43,8 @@ fn has_port_bytes(text: &[u8]) -> bool
 fn has_flavor_bytes(text: &[u8]) -> bool
     ensures { result ≡ list_all (λ b. names.is_lower b || names.is_digit b || (b == 95)) text.now }
 {
-    text.iter().all(|b| is_lower(*b) || is_digit(*b) || *b == b'_')
+    text.iter()
+        .all(|b| is_lower(*b) || is_digit(*b) || *b == b'_')
 }
 
 fn has_version_bytes(text: &[u8]) -> bool

@@ -1,5 +1,4 @@
-use Rattle.std.proofs.Common.{◌≡◌, ◌∙◌, sym, length, arith}
-use Rattle.std.proofs.lemmas.Grind.{common_steps}
+use Rattle.std.proofs.Common.{◌∙◌, sym, length}
 use Rattle.pkg_record.specs.Forms.{is_parted_at}
 use Rattle.pkg_record.proofs.Places.{some_below-at, some_below-next}
 use Rattle.pkg_record.proofs.forms.has_parting.Goals as goal

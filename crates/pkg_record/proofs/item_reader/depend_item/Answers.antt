@@ -1,4 +1,4 @@
-use Rattle.std.proofs.Common.{◌≡◌, ◌∙◌, ap, ap₂, sym, subst, true}
+use Rattle.std.proofs.Common.{◌≡◌, ◌∙◌, ap₂, sym, subst, true}
 use Rattle.bulk_base.specs.Names.{IsNode, IsPackageName}
 use Rattle.pkg_record.specs.Said.{depend}
 use Rattle.pkg_record.specs.Reading.{depend_follows, last_of}

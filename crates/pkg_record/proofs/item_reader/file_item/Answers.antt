@@ -1,9 +1,5 @@
-use Rattle.std.proofs.Common.{◌≡◌, ◌∙◌, ap, sym, subst, length, true}
-use Rattle.std.specs.Prelude.{nat_le, not}
-use Rattle.std.specs.List.{list_all}
-use Rattle.bulk_base.specs.Path.{is_below}
-use Rattle.bulk_model.specs.Facts.{paths_of}
-use Rattle.pkg_record.specs.Reading.{path_follows, last_of, is_next_path}
+use Rattle.std.proofs.Common.{◌∙◌, sym, subst}
+use Rattle.pkg_record.specs.Reading.{is_next_path}
 use Rattle.pkg_record.proofs.NextPath.{MayFollow, may_follow, passed}
 use Rattle.pkg_record.proofs.Lists.{files_grow}
 use Rattle.pkg_record.proofs.item_reader.file_item.Goals as goal

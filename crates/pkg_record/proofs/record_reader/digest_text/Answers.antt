@@ -1,5 +1,5 @@
-use Rattle.std.proofs.Common.{◌≡◌, ◌∙◌, ap, arith}
-use Rattle.hex.specs.Hex.{encode_lower, IsBytes}
+use Rattle.std.proofs.Common.{◌≡◌, ◌∙◌, ap}
+use Rattle.hex.specs.Hex.{encode_lower}
 use Rattle.bulk_base.specs.Text.{is_text}
 use Rattle.sha2.specs.Sha256.{sha256}
 use Rattle.pkg_record.proofs.HexDigits.{is_text-hex, sha256_bytes}
