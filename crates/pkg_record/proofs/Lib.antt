@@ -7,3 +7,5 @@ pub mod NextPath
 pub mod Items
 pub mod NoItems
 pub mod HexDigits
+pub mod Taken
+pub mod Spelled

@@ -1,3 +1,4 @@
 pub mod Forms
 pub mod Said
 pub mod Reading
+pub mod Laws

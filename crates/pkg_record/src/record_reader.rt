@@ -2,6 +2,8 @@
 ghost use Rattle.std.specs.Prelude.{◌≡◌, ◌≢◌, ◌≤◌, length, IfOk, IfErr};
 ghost use Rattle.sha2.specs.Sha256.{sha256};
 ghost use Rattle.hex.specs.Hex.{encode_lower};
+ghost use Rattle.bulk_model.specs.Spelling.{spelling};
+ghost use Rattle.pkg_record.specs.Laws.{IsForDigest};
 ghost use Rattle.pkg_record.specs.Reading.{Gives, unsigned_at, signed_at, signed, record_of};
 
 use crate::fault::{Fault, ReadError, RecordError, misfit};
@@ -57,13 +59,8 @@ fn digest_text(alloc: Global, bytes: &[u8]) -> Result<Text, NoMemory>
     Text::of(alloc, digits.as_str().as_bytes())
 }
 
-/// The package of a record, version 1 (docs/FORMATS.md, "The package record, version 1"; SHA-256 by FIPS 180-4).
-///
-/// Short, BadField and BadDigest as `RecordError` says, the first fault from left to right; NoMemory for want of memory
-/// alone. Each byte is looked at a fixed number of times; a path's folders are looked up among the files before it, in
-/// O(log n) comparisons each. Besides the package, two digests are held.
 #[tactic(auto, unfolding(crate::specs::Reading::judged))]
-pub fn read(alloc: Global, bytes: &[u8]) -> Result<Package, RecordError>
+fn judged(alloc: Global, bytes: &[u8]) -> Result<Package, RecordError>
     ensures ok { IfOk result (λ p. record_of bytes.now ≡ Ok p) }
     ensures err { IfErr result (λ e. e ≢ RecordError.NoMemory → record_of bytes.now ≡ Err e) }
 {
@@ -82,4 +79,21 @@ pub fn read(alloc: Global, bytes: &[u8]) -> Result<Package, RecordError>
         }),
         Err(ReadError::Memory) => Err(RecordError::NoMemory),
     }
+}
+
+/// The package of a record, version 1 (docs/FORMATS.md, "The package record, version 1"; SHA-256 by FIPS 180-4).
+///
+/// Short, BadField and BadDigest as `RecordError` says, the first fault from left to right; NoMemory for want of memory
+/// alone. Each byte is looked at a fixed number of times; a path's folders are looked up among the files before it, in
+/// O(log n) comparisons each. Besides the package, two digests are held.
+pub fn read(alloc: Global, bytes: &[u8]) -> Result<Package, RecordError>
+    // What is read is a package whose record the bytes are.
+    ensures spelled { IfOk result (λ p. bytes.now ≡ spelling p) }
+    // What is refused for its digest is a package's record but for that.
+    ensures digest { IfErr result (λ e. IsForDigest bytes.now e) }
+    // Which answer it is, from left to right.
+    ensures ok { IfOk result (λ p. record_of bytes.now ≡ Ok p) }
+    ensures err { IfErr result (λ e. e ≢ RecordError.NoMemory → record_of bytes.now ≡ Err e) }
+{
+    judged(alloc, bytes)
 }
