@@ -76,9 +76,12 @@ items_taken {X} item spell takes zero before bytes all rest e =
     ([], sym (ap (λ (x : List X × List ℕ). x.0) p) ∙ sym (append-nil before), refl, ap (λ (x : List X × List ℕ). x.1) p)
 items_taken item spell takes (suc n) before bytes all rest e =
     let b = bind_ok (item before bytes) (λ x. items_at item n (before ++ x.0 ∷ []) x.1) (all, rest) e in
-    let r = items_taken item spell takes n (before ++ b.0.0 ∷ []) b.0.1 all rest b.2 in
-    (b.0.0 ∷ r.0, r.1 ∙ append_assoc before (b.0.0 ∷ []) r.0, ap suc r.2,
-      takes before bytes b.0.0 b.0.1 b.1 ∙ ap (λ l. spell b.0.0 ++ l) r.3 ∙ sym (append_assoc (spell b.0.0) (flat_map spell r.0) rest) ∙ ap (λ l. l ++ rest) (sym (flat_map-cons spell b.0.0 r.0)))
+    let r = items_taken item spell takes n (before ++ b.0.0 ∷ []) b.0.1 all rest b.2 in (
+      b.0.0 ∷ r.0,
+      r.1 ∙ append_assoc before (b.0.0 ∷ []) r.0,
+      ap suc r.2,
+      takes before bytes b.0.0 b.0.1 b.1 ∙ ap (λ l. spell b.0.0 ++ l) r.3 ∙ sym (append_assoc (spell b.0.0) (flat_map spell r.0) rest) ∙ ap (λ l. l ++ rest) (sym (flat_map-cons spell b.0.0 r.0)),
+    )
 
 listed_taken : {X : Type 0} (heading : List ℕ) (item : List X → List ℕ → Result (X × List ℕ) Fault) (spell : X → List ℕ) → Takes item spell → (bytes : List ℕ) (all : List X) (rest : List ℕ) → listed_at heading item bytes ≡ Ok (all, rest)
     → (middle : List ℕ) × (bytes ≡ line (heading ++ decimal (length all)) ++ middle) × (middle ≡ flat_map spell all ++ rest)

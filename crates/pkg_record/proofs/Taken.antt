@@ -173,21 +173,21 @@ unfolding kind_of
 kind_taken word kind e = elim (chosen (bytes_eq word (codes "pkg")) (Some Pkg) _ (Some kind) e) [
   | inl c ↦ same_bytes word (codes "pkg") c.0 ∙ ap kind_word (some_is Pkg kind c.1)
   | inr c1 ↦ elim (chosen (bytes_eq word (codes "fetch")) (Some Fetch) _ (Some kind) c1.1) [
-      | inl c ↦ same_bytes word (codes "fetch") c.0 ∙ ap kind_word (some_is Fetch kind c.1)
-      | inr c2 ↦ elim (chosen (bytes_eq word (codes "extract")) (Some Extract) _ (Some kind) c2.1) [
-          | inl c ↦ same_bytes word (codes "extract") c.0 ∙ ap kind_word (some_is Extract kind c.1)
-          | inr c3 ↦ elim (chosen (bytes_eq word (codes "patch")) (Some Patch) _ (Some kind) c3.1) [
-              | inl c ↦ same_bytes word (codes "patch") c.0 ∙ ap kind_word (some_is Patch kind c.1)
-              | inr c4 ↦ elim (chosen (bytes_eq word (codes "build")) (Some Build) _ (Some kind) c4.1) [
-                  | inl c ↦ same_bytes word (codes "build") c.0 ∙ ap kind_word (some_is Build kind c.1)
-                  | inr c5 ↦ elim (chosen (bytes_eq word (codes "lib")) (Some Lib) _ (Some kind) c5.1) [
-                      | inl c ↦ same_bytes word (codes "lib") c.0 ∙ ap kind_word (some_is Lib kind c.1)
-                      | inr c6 ↦ (let g = given (bytes_eq word (codes "run")) Run kind c6.1 in same_bytes word (codes "run") g.0 ∙ ap kind_word g.1)
-                    ]
-                ]
-            ]
+    | inl c ↦ same_bytes word (codes "fetch") c.0 ∙ ap kind_word (some_is Fetch kind c.1)
+    | inr c2 ↦ elim (chosen (bytes_eq word (codes "extract")) (Some Extract) _ (Some kind) c2.1) [
+      | inl c ↦ same_bytes word (codes "extract") c.0 ∙ ap kind_word (some_is Extract kind c.1)
+      | inr c3 ↦ elim (chosen (bytes_eq word (codes "patch")) (Some Patch) _ (Some kind) c3.1) [
+        | inl c ↦ same_bytes word (codes "patch") c.0 ∙ ap kind_word (some_is Patch kind c.1)
+        | inr c4 ↦ elim (chosen (bytes_eq word (codes "build")) (Some Build) _ (Some kind) c4.1) [
+          | inl c ↦ same_bytes word (codes "build") c.0 ∙ ap kind_word (some_is Build kind c.1)
+          | inr c5 ↦ elim (chosen (bytes_eq word (codes "lib")) (Some Lib) _ (Some kind) c5.1) [
+            | inl c ↦ same_bytes word (codes "lib") c.0 ∙ ap kind_word (some_is Lib kind c.1)
+            | inr c6 ↦ (let g = given (bytes_eq word (codes "run")) Run kind c6.1 in same_bytes word (codes "run") g.0 ∙ ap kind_word g.1)
+          ]
         ]
+      ]
     ]
+  ]
 ]
 
 pub package_name_filled : (text : List ℕ) → is_package_name text ≡ true → 0 < length text
@@ -240,6 +240,7 @@ piece_taken size bytes text rest e =
     let g = chosen_ok (ltb size (length bytes)) (cond (get_or bytes size 0 == 10) (Ok (take size bytes, drop (size + 1) bytes)) (Err (Misfit (length bytes)))) Short (text, rest) e in
     let l : size < length bytes = below _ _ g.0 in
     let h = given_ok (get_or bytes size 0 == 10) (Misfit (length bytes)) (take size bytes, drop (size + 1) bytes) (text, rest) g.1 in
-    let cut : bytes ≡ take size bytes ++ 10 ∷ drop (size + 1) bytes = sym (take-append-drop size bytes) ∙ ap (λ r. take size bytes ++ r) (drop_more bytes size 0 l ∙ ap (λ b. b ∷ drop (size + 1) bytes) (eqb-true _ _ h.0)) in
-    (cut ∙ ap (λ (x : List ℕ × List ℕ). x.0 ++ 10 ∷ x.1) h.1 ∙ sym (append_assoc text (10 ∷ []) rest),
-     sym (ap (λ (x : List ℕ × List ℕ). length x.0) h.1) ∙ length-take-le size bytes (omega arith))
+    let cut : bytes ≡ take size bytes ++ 10 ∷ drop (size + 1) bytes = sym (take-append-drop size bytes) ∙ ap (λ r. take size bytes ++ r) (drop_more bytes size 0 l ∙ ap (λ b. b ∷ drop (size + 1) bytes) (eqb-true _ _ h.0)) in (
+      cut ∙ ap (λ (x : List ℕ × List ℕ). x.0 ++ 10 ∷ x.1) h.1 ∙ sym (append_assoc text (10 ∷ []) rest),
+      sym (ap (λ (x : List ℕ × List ℕ). length x.0) h.1) ∙ length-take-le size bytes (omega arith),
+    )
