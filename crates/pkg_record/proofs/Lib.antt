@@ -9,3 +9,6 @@ pub mod NoItems
 pub mod HexDigits
 pub mod Taken
 pub mod Spelled
+pub mod NamesAgain
+pub mod SaidAgain
+pub mod SpelledAgain

@@ -35,7 +35,7 @@ list_all-weaken p q h (x ∷ xs) t =
     let rest = list_all-weaken p q h xs parts.1 in
     grind arith
 
-made_of : (p : ℕ → Bool) (least most : ℕ) (text : List ℕ) → is_made_of p least most text ≡ true → (least ≤ length text) × (length text ≤ most) × (list_all p text ≡ true)
+pub made_of : (p : ℕ → Bool) (least most : ℕ) (text : List ℕ) → is_made_of p least most text ≡ true → (least ≤ length text) × (length text ≤ most) × (list_all p text ≡ true)
 made_of p least most text h = (grind (arith, nat_tests), grind (arith, nat_tests), grind arith)
 
 port_byte : (b : ℕ) → is_port_byte b ≡ true → is_visible b ≡ true

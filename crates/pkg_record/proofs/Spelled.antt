@@ -1,6 +1,6 @@
 -- What is read as a package is spelled so.
-use Rattle.std.proofs.Common.{◌≡◌, ℕ, ◌+◌, ◌-◌, zero, suc, Bool, true, false, List, [], ◌∷◌, ◌++◌, length, take, codes, arith, refl, ap, ap₂, sym, subst, ◌∙◌, append_assoc, append-nil}
-use Rattle.std.specs.Prelude.{◌&&◌, ◌==◌, ◌≢◌, Option, Some, None, Result, Ok, Err, IfOk, IfErr, cond, bytes_eq}
+use Rattle.std.proofs.Common.{◌≡◌, ℕ, ◌-◌, zero, suc, Bool, true, false, List, [], ◌∷◌, ◌++◌, length, take, codes, arith, refl, ap, ap₂, sym, subst, ◌∙◌, append_assoc, append-nil}
+use Rattle.std.specs.Prelude.{◌==◌, ◌≢◌, Option, Some, Result, Ok, Err, IfOk, IfErr, cond, bytes_eq}
 use Rattle.std.specs.Option.{option_and_then}
 use Rattle.std.specs.List.{flat_map}
 use Rattle.std.specs.Fmt.{decimal}
@@ -23,7 +23,7 @@ use Rattle.pkg_record.specs.declared.fault.RecordError.TheVariants as records
 use Rattle.pkg_record.specs.Forms.{is_origin, is_package_name, is_digest}
 use Rattle.pkg_record.specs.Said.{passing, word_behind, flavor_said, count_behind, option_said, depend_said, file_said}
 use Rattle.pkg_record.specs.Reading.{◌>>=◌, said_at, piece_at, last_of, option_follows, next_option, option_at, depend_follows, next_depend, depend_at, is_next_path, next_file, file_at, items_at, listed_at, unsigned_at, Signed, signed, signed_at, digest_of, judged, record_of}
-use Rattle.pkg_record.specs.Laws.{HasOtherDigest, IsForDigest}
+use Rattle.pkg_record.specs.Laws.{IsForDigest}
 use Rattle.pkg_record.proofs.NextPath.{may_follow}
 use Rattle.pkg_record.proofs.Taken.{bind_ok, then_some, given, given_ok, ok_is, said_taken, word_taken, flavor_taken, count_taken, option_taken, depend_taken, path_filled, file_taken, piece_taken}
 
@@ -45,7 +45,7 @@ depend_item before bytes found rest e =
     let g = given (depend_follows (last_of before) t.0) t.0 found t.2 in
     s.2 ∙ ap (λ l. l ++ rest) (depend_taken s.0 t.0 t.1 ∙ ap depend_line g.1)
 
-abbrev file_made : List ℕ → List ℕ → FileItem
+abbrev pub file_made : List ℕ → List ℕ → FileItem
 file_made path bytes = record { path = path; bytes = bytes }
 
 file_item : (before : List FileItem) (bytes : List ℕ) (file : FileItem) (rest : List ℕ) → file_at before bytes ≡ Ok (file, rest) → bytes ≡ file_piece file ++ rest
@@ -101,31 +101,31 @@ joined_one done bytes a r e = ap (λ t. done ++ t) e ∙ sym (append_assoc done 
 joined_two : (done bytes a m b r : List ℕ) → bytes ≡ a ++ m → m ≡ b ++ r → done ++ bytes ≡ ((done ++ a) ++ b) ++ r
 joined_two done bytes a m b r e f = joined_one done bytes a m e ∙ joined_one (done ++ a) m b r f
 
-abbrev packed : List ℕ → List ℕ → Option (List ℕ) → List Switch → List Depend → List FileItem → PackageView
+abbrev pub packed : List ℕ → List ℕ → Option (List ℕ) → List Switch → List Depend → List FileItem → PackageView
 packed name origin flavor options depends files = record { name = name; origin = origin; flavor = flavor; options = options; depends = depends; files = files }
 
-abbrev Reads : Type 0
+abbrev pub Reads : Type 0
 Reads = List ℕ → Result (PackageView × List ℕ) Fault
 
-abbrev from_files : List ℕ → List ℕ → Option (List ℕ) → List Switch → List Depend → Reads
+abbrev pub from_files : List ℕ → List ℕ → Option (List ℕ) → List Switch → List Depend → Reads
 from_files name origin flavor options depends bytes = listed_at (codes "files ") file_at bytes >>= λ files. Ok (packed name origin flavor options depends files.0, files.1)
 
-abbrev from_depends : List ℕ → List ℕ → Option (List ℕ) → List Switch → Reads
+abbrev pub from_depends : List ℕ → List ℕ → Option (List ℕ) → List Switch → Reads
 from_depends name origin flavor options bytes = listed_at (codes "depends ") depend_at bytes >>= λ depends. from_files name origin flavor options depends.0 depends.1
 
-abbrev from_options : List ℕ → List ℕ → Option (List ℕ) → Reads
+abbrev pub from_options : List ℕ → List ℕ → Option (List ℕ) → Reads
 from_options name origin flavor bytes = listed_at (codes "options ") option_at bytes >>= λ options. from_depends name origin flavor options.0 options.1
 
-abbrev from_flavor : List ℕ → List ℕ → Reads
+abbrev pub from_flavor : List ℕ → List ℕ → Reads
 from_flavor name origin bytes = said_at flavor_said bytes >>= λ flavor. from_options name origin flavor.0 flavor.1
 
-abbrev from_origin : List ℕ → Reads
+abbrev pub from_origin : List ℕ → Reads
 from_origin name bytes = said_at (word_behind (codes "origin ") is_origin) bytes >>= λ origin. from_flavor name origin.0 origin.1
 
-abbrev from_name : Reads
+abbrev pub from_name : Reads
 from_name bytes = said_at (word_behind (codes "name ") is_package_name) bytes >>= λ name. from_origin name.0 name.1
 
-abbrev is_version_line : List ℕ → Bool
+abbrev pub is_version_line : List ℕ → Bool
 is_version_line text = bytes_eq text (codes "poudriere-package 1")
 
 version_taken : (bytes text rest : List ℕ) → said_at (passing is_version_line) bytes ≡ Ok (text, rest) → bytes ≡ line (codes "poudriere-package 1") ++ rest
@@ -145,22 +145,22 @@ flavor_line_taken bytes flavor rest e =
     s.2 ∙ ap (λ t. line t ++ rest) (flavor_taken s.0 flavor s.1)
 
 -- the spelling up to some line
-abbrev up_to_version : List ℕ
+abbrev pub up_to_version : List ℕ
 up_to_version = line (codes "poudriere-package 1")
 
-abbrev up_to_name : List ℕ → List ℕ
+abbrev pub up_to_name : List ℕ → List ℕ
 up_to_name name = up_to_version ++ line (codes "name " ++ name)
 
-abbrev up_to_origin : List ℕ → List ℕ → List ℕ
+abbrev pub up_to_origin : List ℕ → List ℕ → List ℕ
 up_to_origin name origin = up_to_name name ++ line (codes "origin " ++ origin)
 
-abbrev up_to_flavor : List ℕ → List ℕ → Option (List ℕ) → List ℕ
+abbrev pub up_to_flavor : List ℕ → List ℕ → Option (List ℕ) → List ℕ
 up_to_flavor name origin flavor = up_to_origin name origin ++ line (codes "flavor " ++ flavor_word flavor)
 
-abbrev up_to_options : List ℕ → List ℕ → Option (List ℕ) → List Switch → List ℕ
+abbrev pub up_to_options : List ℕ → List ℕ → Option (List ℕ) → List Switch → List ℕ
 up_to_options name origin flavor options = up_to_flavor name origin flavor ++ line (codes "options " ++ decimal (length options)) ++ flat_map option_line options
 
-abbrev up_to_depends : List ℕ → List ℕ → Option (List ℕ) → List Switch → List Depend → List ℕ
+abbrev pub up_to_depends : List ℕ → List ℕ → Option (List ℕ) → List Switch → List Depend → List ℕ
 up_to_depends name origin flavor options depends = up_to_options name origin flavor options ++ line (codes "depends " ++ decimal (length depends)) ++ flat_map depend_line depends
 
 files_taken : (name origin : List ℕ) (flavor : Option (List ℕ)) (options : List Switch) (depends : List Depend) (bytes : List ℕ) (p : PackageView) (rest : List ℕ)

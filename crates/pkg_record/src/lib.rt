@@ -13,5 +13,5 @@ mod tests;
 mod words;
 
 pub use fault::RecordError;
-pub use record_reader::read;
+pub use record_reader::{no_record_begins_another, read};
 pub use record_writer::write;

@@ -1,9 +1,10 @@
 // A package out of its record.
-ghost use Rattle.std.specs.Prelude.{◌≡◌, ◌≢◌, ◌≤◌, length, IfOk, IfErr};
+ghost use Rattle.std.specs.Prelude.{◌≡◌, ◌≢◌, ◌≤◌, List, ℕ, [], ◌++◌, length, IfOk, IfErr, MatchResult};
 ghost use Rattle.sha2.specs.Sha256.{sha256};
 ghost use Rattle.hex.specs.Hex.{encode_lower};
 ghost use Rattle.bulk_model.specs.Spelling.{spelling};
-ghost use Rattle.pkg_record.specs.Laws.{IsForDigest};
+ghost use Rattle.pkg_record.specs.Laws.{HasRecord, IsForDigest};
+ghost use Rattle.bulk_model.specs.Views.{PackageView};
 ghost use Rattle.pkg_record.specs.Reading.{Gives, unsigned_at, signed_at, signed, record_of};
 
 use crate::fault::{Fault, ReadError, RecordError, misfit};
@@ -89,6 +90,8 @@ fn judged(alloc: Global, bytes: &[u8]) -> Result<Package, RecordError>
 pub fn read(alloc: Global, bytes: &[u8]) -> Result<Package, RecordError>
     // What is read is a package whose record the bytes are.
     ensures spelled { IfOk result (λ p. bytes.now ≡ spelling p) }
+    // What a package's record is, is read as that package, unless memory runs out.
+    ensures only { (p : PackageView) → HasRecord p → bytes.now ≡ spelling p → MatchResult result (λ x. x ≡ p) (λ e. e ≡ RecordError.NoMemory) }
     // What is refused for its digest is a package's record but for that.
     ensures digest { IfErr result (λ e. IsForDigest bytes.now e) }
     // Which answer it is, from left to right.
@@ -97,3 +100,8 @@ pub fn read(alloc: Global, bytes: &[u8]) -> Result<Package, RecordError>
 {
     judged(alloc, bytes)
 }
+
+/// No record begins another, so that a record ends by itself and one package has one record.
+pub fn no_record_begins_another()
+    ensures { (p q : PackageView) (more : List ℕ) → HasRecord p → HasRecord q → spelling q ≡ spelling p ++ more → (p ≡ q) × (more ≡ []) }
+{}
