@@ -1,0 +1,86 @@
+-- Searches among files in order of their paths, and files of which none is a folder of a path.
+use Rattle.std.proofs.Common.{◌≡◌, ◌↔◌, ℕ, ◌+◌, ◌<◌, true, false, not, List, [], ◌∷◌, ◌++◌, length, get_or, take, drop, IsTrue, Contains, arith, sym, ap, subst, refl, ◌∙◌, inl, inr, ⊎_elim, ◌⊎◌, suc}
+use Rattle.std.specs.Prelude.{Result, Ok, Err}
+use Rattle.std.specs.declared.cmp.Ordering.TheVariants.{Less, Equal, Greater}
+use Rattle.std.specs.Ordering.{is_lt, is_eq, nat_cmp, ordering_reverse}
+use Rattle.std.specs.Result.{is_ok}
+use Rattle.std.specs.Cmp.Lexicographic.{slice_cmp}
+use Rattle.std.specs.List.{list_all}
+use Rattle.std.specs.List.Sorted.{IsSortedBy, IsBinarySearchResult, IsSearchInRange}
+use Rattle.std.proofs.lemmas.Bool.{cases_Bool, cases_lt}
+use Rattle.std.proofs.lemmas.Cmp.{nat_list_cmp_total, tied_itself}
+use Rattle.std.proofs.lemmas.Map.Text.{is_eq-slice_cmp}
+use Rattle.std.proofs.lemmas.Slice.Eq.{bytes_eq-Decides}
+use Rattle.std.proofs.lemmas.List.{length-append, length-map, take-append-drop, get_or_default}
+use Rattle.std.proofs.lemmas.List.Sorted.{searchable_from_sorted}
+use Rattle.std.proofs.lemmas.List.Sums.{list_all-from_AllPass}
+use Rattle.std.proofs.lemmas.List.Folds.{list_all_at}
+use Rattle.std.proofs.lemmas.Map.Keys.{Less-from_sorted}
+use Rattle.std.proofs.Math.ListN.{get_or-map}
+use Rattle.std.proofs.Math.Seq.{get_or-append_seam, take-append_seam, drop-cons}
+use Rattle.bulk_base.specs.declared.file.FileItem.{FileItem}
+use Rattle.bulk_base.specs.Path.{is_below, joined}
+use Rattle.bulk_base.proofs.Paths.{below_is_joined, is_below-joined}
+use Rattle.bulk_model.specs.Facts.{paths_of}
+use Rattle.outside.specs.Contents.{IsAscending}
+
+abbrev path_of : FileItem → List ℕ
+path_of f = f.path
+
+sorted_files : (files : List FileItem) → IsAscending (paths_of files) → IsSortedBy (λ x y. is_lt (slice_cmp nat_cmp x.path y.path)) files
+sorted_files files s k d low high =
+    let less : slice_cmp nat_cmp (get_or (paths_of files) k d.path) (get_or (paths_of files) (k + 1) d.path) ≡ Less = Less-from_sorted (slice_cmp nat_cmp) (paths_of files) k (k + 1) d.path s (omega arith) (omega (arith, high, length-map files path_of)) in
+    let near : slice_cmp nat_cmp (get_or files k d).path (get_or files (k + 1) d).path ≡ Less =
+    sym (ap (λ p. slice_cmp nat_cmp p (get_or files (k + 1) d).path) (get_or-map path_of files k d)) ∙ sym (ap (slice_cmp nat_cmp (get_or (paths_of files) k d.path)) (get_or-map path_of files (k + 1) d)) ∙ less in
+    ap is_lt (nat_list_cmp_total.antisymm (get_or files (k + 1) d).path (get_or files k d).path ∙ ap ordering_reverse near)
+
+-- a binary search in files by path finds each path, and nothing else
+pub searched_path : (files : List FileItem) (key : List ℕ) (r : Result ℕ ℕ) → IsAscending (paths_of files) → IsSearchInRange r (length files) → IsBinarySearchResult (λ y. slice_cmp nat_cmp y.path key) files r → IsTrue (is_ok r) ↔ Contains (paths_of files) key
+searched_path files key (Ok k) s within at =
+    let d : FileItem = record { path = key; bytes = [] } in
+    let same : (get_or files k d).path ≡ key = (bytes_eq-Decides (get_or files k d).path key).0 (sym (is_eq-slice_cmp (get_or files k d).path key) ∙ ap is_eq (at d)) in
+    (λ e. (k, omega (arith, within, length-map files path_of), get_or-map path_of files k d ∙ same), λ c. refl)
+searched_path files key (Err i) s within at =
+    let d : FileItem = record { path = key; bytes = [] } in
+    let cut = at (searchable_from_sorted nat_list_cmp_total path_of files key (sorted_files files s)) in
+    let tied : slice_cmp nat_cmp key key ≡ Equal = tied_itself nat_list_cmp_total key in
+    let missed : Contains (paths_of files) key → ⊥ = λ c.
+    let e : (get_or files c.0 d).path ≡ key = sym (get_or-map path_of files c.0 d) ∙ c.2 in
+    let here : slice_cmp nat_cmp (get_or files c.0 d).path key ≡ Equal = ap (λ p. slice_cmp nat_cmp p key) e ∙ tied in
+    ⊎_elim
+    (λ low. let less : slice_cmp nat_cmp (get_or files c.0 d).path key ≡ Less = cut.0 c.0 d (omega arith) low in let all : Less ≡ Equal = sym less ∙ here in cc)
+    (λ high. let more : slice_cmp nat_cmp (get_or files c.0 d).path key ≡ Greater = cut.1 c.0 d high (omega (arith, c.1, length-map files path_of)) in let all : Greater ≡ Equal = sym more ∙ here in cc)
+    (cases_lt c.0 i) in
+    (λ e. cc, λ c. absurd (missed c))
+
+-- what a folder is joined to begins with the folder, and a slash stands behind that
+slash_behind : (folder path : List ℕ) → is_below folder path ≡ true → (length folder < length path) × (get_or path (length folder) 0 ≡ 47) × (take (length folder) path ≡ folder)
+slash_behind folder path h =
+    let e : path ≡ joined folder (drop (length folder + 1) path) = below_is_joined folder path h in
+    let rest = drop (length folder + 1) path in (
+      omega (arith, ap length e, length-append folder (47 ∷ rest)),
+      ap (λ p. get_or p (length folder) 0) e ∙ get_or-append_seam folder 47 rest 0,
+      ap (take (length folder)) e ∙ take-append_seam folder (47 ∷ rest),
+    )
+
+-- no folder of the path is among the paths, where none of its beginnings that end before a slash is
+pub none_above : (paths : List (List ℕ)) (path : List ℕ) → ((k : ℕ) → k < length path → get_or path k 0 ≡ 47 → Contains paths (take k path) → ⊥)
+    → list_all (λ folder. not (is_below folder path)) paths ≡ true
+none_above paths path h = list_all-from_AllPass (λ folder. not (is_below folder path)) paths (λ k d l. apart k d l (cases_Bool (is_below (get_or paths k d) path)))
+  where
+    apart : (k : ℕ) (d : List ℕ) → k < length paths → (is_below (get_or paths k d) path ≡ true) ⊎ (is_below (get_or paths k d) path ≡ false) → not (is_below (get_or paths k d) path) ≡ true
+    apart k d l (inl e) =
+        let s = slash_behind (get_or paths k d) path e in
+        absurd (h (length (get_or paths k d)) s.0 s.1 (k, l, get_or_default paths k _ d l ∙ sym s.2))
+    apart k d l (inr e) = ap not e
+
+-- the beginning of a path that ends before a slash is a folder of the path
+pub begins_below : (path : List ℕ) (k : ℕ) → k < length path → get_or path k 0 ≡ 47 → is_below (take k path) path ≡ true
+begins_below path k l e =
+    let whole : path ≡ joined (take k path) (drop (suc k) path) =
+    sym (take-append-drop k path) ∙ ap (λ l. take k path ++ l) (drop-cons path k 0 l ∙ ap (λ b. b ∷ drop (suc k) path) e) in
+    subst (λ p. is_below (take k path) p ≡ true) (sym whole) (is_below-joined (take k path) (drop (suc k) path))
+
+-- a folder of the path is among the paths
+pub one_above : (paths : List (List ℕ)) (path : List ℕ) (k : ℕ) → k < length path → get_or path k 0 ≡ 47 → Contains paths (take k path) → list_all (λ folder. not (is_below folder path)) paths ≡ false
+one_above paths path k l e c = list_all_at (λ folder. not (is_below folder path)) paths c.0 (take k path) c.1 (ap (λ f. not (is_below f path)) c.2 ∙ ap not (begins_below path k l e))

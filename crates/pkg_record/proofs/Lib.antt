@@ -1,0 +1,14 @@
+pub mod Places
+pub mod Numerals
+pub mod Names
+pub mod Lists
+pub mod Folders
+pub mod NextPath
+pub mod Items
+pub mod NoItems
+pub mod HexDigits
+pub mod Taken
+pub mod Spelled
+pub mod NamesAgain
+pub mod SaidAgain
+pub mod SpelledAgain

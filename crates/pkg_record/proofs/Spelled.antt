@@ -1,0 +1,303 @@
+-- What is read as a package is spelled so.
+use Rattle.std.proofs.Common.{◌≡◌, ℕ, ◌-◌, zero, suc, Bool, true, false, List, [], ◌∷◌, ◌++◌, length, take, codes, arith, refl, ap, ap₂, sym, subst, ◌∙◌, append_assoc, append-nil}
+use Rattle.std.specs.Prelude.{◌==◌, ◌≢◌, Option, Some, Result, Ok, Err, IfOk, IfErr, cond, bytes_eq}
+use Rattle.std.specs.Option.{option_and_then}
+use Rattle.std.specs.List.{flat_map}
+use Rattle.std.specs.Fmt.{decimal}
+use Rattle.std.proofs.lemmas.Bool.{eqb-true}
+use Rattle.std.proofs.lemmas.List.{length-append, nil_from_length}
+use Rattle.std.proofs.lemmas.List.Concat.{flat_map-cons}
+use Rattle.std.proofs.lemmas.Slice.Eq.{bytes_eq-Decides}
+use Rattle.std.proofs.Math.Seq.{take-append_seam}
+use Rattle.sha2.specs.Sha256.{sha256}
+use Rattle.hex.specs.Hex.{encode_lower}
+use Rattle.bulk_base.specs.declared.file.FileItem.{FileItem}
+use Rattle.bulk_base.specs.declared.file.Switch.{Switch}
+use Rattle.bulk_model.specs.declared.depend.Depend.{Depend}
+use Rattle.bulk_model.specs.Views.{PackageView}
+use Rattle.bulk_model.specs.Spelling.{line, flavor_word, option_line, depend_line, file_piece, unsigned, signed_with, spelling}
+use Rattle.pkg_record.specs.declared.fault.Fault.{Fault}
+use Rattle.pkg_record.specs.declared.fault.Fault.TheVariants.{Short, Misfit}
+use Rattle.pkg_record.specs.declared.fault.RecordError.{RecordError}
+use Rattle.pkg_record.specs.declared.fault.RecordError.TheVariants as records
+use Rattle.pkg_record.specs.Forms.{is_origin, is_package_name, is_digest}
+use Rattle.pkg_record.specs.Said.{passing, word_behind, flavor_said, count_behind, option_said, depend_said, file_said}
+use Rattle.pkg_record.specs.Reading.{◌>>=◌, said_at, piece_at, last_of, option_follows, next_option, option_at, depend_follows, next_depend, depend_at, is_next_path, next_file, file_at, items_at, listed_at, unsigned_at, Signed, signed, signed_at, digest_of, judged, record_of}
+use Rattle.pkg_record.specs.Laws.{IsForDigest}
+use Rattle.pkg_record.proofs.NextPath.{may_follow}
+use Rattle.pkg_record.proofs.Taken.{bind_ok, then_some, given, given_ok, ok_is, said_taken, word_taken, flavor_taken, count_taken, option_taken, depend_taken, path_filled, file_taken, piece_taken}
+
+-- ---- items
+
+option_item : (before : List Switch) (bytes : List ℕ) (option : Switch) (rest : List ℕ) → option_at before bytes ≡ Ok (option, rest) → bytes ≡ option_line option ++ rest
+unfolding option_at
+option_item before bytes option rest e =
+    let s = said_taken (λ text. option_and_then (next_option before) (option_said text)) bytes option rest e in
+    let t = then_some (option_said s.0) (next_option before) option s.1 in
+    let g = given (option_follows (last_of before) t.0) t.0 option t.2 in
+    s.2 ∙ ap (λ l. l ++ rest) (option_taken s.0 t.0 t.1 ∙ ap option_line g.1)
+
+depend_item : (before : List Depend) (bytes : List ℕ) (found : Depend) (rest : List ℕ) → depend_at before bytes ≡ Ok (found, rest) → bytes ≡ depend_line found ++ rest
+unfolding depend_at
+depend_item before bytes found rest e =
+    let s = said_taken (λ text. option_and_then (next_depend before) (depend_said text)) bytes found rest e in
+    let t = then_some (depend_said s.0) (next_depend before) found s.1 in
+    let g = given (depend_follows (last_of before) t.0) t.0 found t.2 in
+    s.2 ∙ ap (λ l. l ++ rest) (depend_taken s.0 t.0 t.1 ∙ ap depend_line g.1)
+
+abbrev pub file_made : List ℕ → List ℕ → FileItem
+file_made path bytes = record { path = path; bytes = bytes }
+
+file_item : (before : List FileItem) (bytes : List ℕ) (file : FileItem) (rest : List ℕ) → file_at before bytes ≡ Ok (file, rest) → bytes ≡ file_piece file ++ rest
+unfolding file_at
+file_item before bytes file rest e =
+    let b = bind_ok (said_at (λ text. option_and_then (next_file before) (file_said text)) bytes) (λ head. piece_at head.0.0 head.1 >>= λ piece. Ok (file_made head.0.1 piece.0, piece.1)) (file, rest) e in
+    let size = b.0.0.0 in
+    let path = b.0.0.1 in
+    let c = bind_ok (piece_at size b.0.1) (λ piece. Ok (file_made path piece.0, piece.1)) (file, rest) b.2 in
+    let s = said_taken (λ text. option_and_then (next_file before) (file_said text)) bytes b.0.0 b.0.1 b.1 in
+    let t = then_some (file_said s.0) (next_file before) b.0.0 s.1 in
+    let g = given (is_next_path before t.0.1) t.0 b.0.0 t.2 in
+    let next : is_next_path before path ≡ true = ap (λ (x : ℕ × List ℕ). is_next_path before x.1) (sym g.1) ∙ g.0 in
+    let said : file_said s.0 ≡ Some (size, path) = t.1 ∙ ap (λ x. Some x) g.1 in
+    let p = piece_taken size b.0.1 c.0.0 c.0.1 c.1 in
+    let head : line s.0 ≡ line (codes "file " ++ decimal (length c.0.0) ++ codes " " ++ path) = ap line (file_taken s.0 size path (path_filled path (may_follow before path next).form) said ∙ ap (λ n. codes "file " ++ decimal n ++ codes " " ++ path) (sym p.1)) in
+    let whole : bytes ≡ file_piece (file_made path c.0.0) ++ c.0.1 = s.2 ∙ ap₂ (λ l r. l ++ r) head p.0 ∙ sym (append_assoc (line (codes "file " ++ decimal (length c.0.0) ++ codes " " ++ path)) (line c.0.0) c.0.1) in
+    subst (λ (x : FileItem × List ℕ). bytes ≡ file_piece x.0 ++ x.1) (ok_is (file_made path c.0.0, c.0.1) (file, rest) c.2) whole
+
+abbrev Takes : {X : Type 0} → (List X → List ℕ → Result (X × List ℕ) Fault) → (X → List ℕ) → Type 0
+Takes {X} item spell = (before : List X) (bytes : List ℕ) (x : X) (rest : List ℕ) → item before bytes ≡ Ok (x, rest) → bytes ≡ spell x ++ rest
+
+items_taken : {X : Type 0} (item : List X → List ℕ → Result (X × List ℕ) Fault) (spell : X → List ℕ) → Takes item spell → (n : ℕ) (before : List X) (bytes : List ℕ) (all : List X) (rest : List ℕ) → items_at item n before bytes ≡ Ok (all, rest)
+    → (more : List X) × (all ≡ before ++ more) × (length more ≡ n) × (bytes ≡ flat_map spell more ++ rest)
+unfolding items_at
+items_taken {X} item spell takes zero before bytes all rest e =
+    let p = ok_is (before, bytes) (all, rest) e in
+    ([], sym (ap (λ (x : List X × List ℕ). x.0) p) ∙ sym (append-nil before), refl, ap (λ (x : List X × List ℕ). x.1) p)
+items_taken item spell takes (suc n) before bytes all rest e =
+    let b = bind_ok (item before bytes) (λ x. items_at item n (before ++ x.0 ∷ []) x.1) (all, rest) e in
+    let r = items_taken item spell takes n (before ++ b.0.0 ∷ []) b.0.1 all rest b.2 in (
+      b.0.0 ∷ r.0,
+      r.1 ∙ append_assoc before (b.0.0 ∷ []) r.0,
+      ap suc r.2,
+      takes before bytes b.0.0 b.0.1 b.1 ∙ ap (λ l. spell b.0.0 ++ l) r.3 ∙ sym (append_assoc (spell b.0.0) (flat_map spell r.0) rest) ∙ ap (λ l. l ++ rest) (sym (flat_map-cons spell b.0.0 r.0)),
+    )
+
+listed_taken : {X : Type 0} (heading : List ℕ) (item : List X → List ℕ → Result (X × List ℕ) Fault) (spell : X → List ℕ) → Takes item spell → (bytes : List ℕ) (all : List X) (rest : List ℕ) → listed_at heading item bytes ≡ Ok (all, rest)
+    → (middle : List ℕ) × (bytes ≡ line (heading ++ decimal (length all)) ++ middle) × (middle ≡ flat_map spell all ++ rest)
+unfolding listed_at
+listed_taken heading item spell takes bytes all rest e =
+    let b = bind_ok (said_at (count_behind heading) bytes) (λ count. items_at item count.0 [] count.1) (all, rest) e in
+    let s = said_taken (count_behind heading) bytes b.0.0 b.0.1 b.1 in
+    let i = items_taken item spell takes b.0.0 [] b.0.1 all rest b.2 in
+    let count : b.0.0 ≡ length all = sym i.2 ∙ ap length (sym i.1) in
+    (b.0.1, s.2 ∙ ap (λ t. line t ++ b.0.1) (count_taken heading s.0 b.0.0 s.1 ∙ ap (λ n. heading ++ decimal n) count), i.3 ∙ ap (λ m. flat_map spell m ++ rest) (sym i.1))
+
+-- ---- the lines before the digest
+
+joined_one : (done bytes a r : List ℕ) → bytes ≡ a ++ r → done ++ bytes ≡ (done ++ a) ++ r
+joined_one done bytes a r e = ap (λ t. done ++ t) e ∙ sym (append_assoc done a r)
+
+joined_two : (done bytes a m b r : List ℕ) → bytes ≡ a ++ m → m ≡ b ++ r → done ++ bytes ≡ ((done ++ a) ++ b) ++ r
+joined_two done bytes a m b r e f = joined_one done bytes a m e ∙ joined_one (done ++ a) m b r f
+
+abbrev pub packed : List ℕ → List ℕ → Option (List ℕ) → List Switch → List Depend → List FileItem → PackageView
+packed name origin flavor options depends files = record { name = name; origin = origin; flavor = flavor; options = options; depends = depends; files = files }
+
+abbrev pub Reads : Type 0
+Reads = List ℕ → Result (PackageView × List ℕ) Fault
+
+abbrev pub from_files : List ℕ → List ℕ → Option (List ℕ) → List Switch → List Depend → Reads
+from_files name origin flavor options depends bytes = listed_at (codes "files ") file_at bytes >>= λ files. Ok (packed name origin flavor options depends files.0, files.1)
+
+abbrev pub from_depends : List ℕ → List ℕ → Option (List ℕ) → List Switch → Reads
+from_depends name origin flavor options bytes = listed_at (codes "depends ") depend_at bytes >>= λ depends. from_files name origin flavor options depends.0 depends.1
+
+abbrev pub from_options : List ℕ → List ℕ → Option (List ℕ) → Reads
+from_options name origin flavor bytes = listed_at (codes "options ") option_at bytes >>= λ options. from_depends name origin flavor options.0 options.1
+
+abbrev pub from_flavor : List ℕ → List ℕ → Reads
+from_flavor name origin bytes = said_at flavor_said bytes >>= λ flavor. from_options name origin flavor.0 flavor.1
+
+abbrev pub from_origin : List ℕ → Reads
+from_origin name bytes = said_at (word_behind (codes "origin ") is_origin) bytes >>= λ origin. from_flavor name origin.0 origin.1
+
+abbrev pub from_name : Reads
+from_name bytes = said_at (word_behind (codes "name ") is_package_name) bytes >>= λ name. from_origin name.0 name.1
+
+abbrev pub is_version_line : List ℕ → Bool
+is_version_line text = bytes_eq text (codes "poudriere-package 1")
+
+version_taken : (bytes text rest : List ℕ) → said_at (passing is_version_line) bytes ≡ Ok (text, rest) → bytes ≡ line (codes "poudriere-package 1") ++ rest
+version_taken bytes text rest e =
+    let s = said_taken (passing is_version_line) bytes text rest e in
+    let g = given (is_version_line s.0) s.0 text s.1 in
+    s.2 ∙ ap (λ t. line t ++ rest) ((bytes_eq-Decides s.0 (codes "poudriere-package 1")).0 g.0)
+
+word_line_taken : (heading : List ℕ) (test : List ℕ → Bool) (bytes word rest : List ℕ) → said_at (word_behind heading test) bytes ≡ Ok (word, rest) → bytes ≡ line (heading ++ word) ++ rest
+word_line_taken heading test bytes word rest e =
+    let s = said_taken (word_behind heading test) bytes word rest e in
+    s.2 ∙ ap (λ t. line t ++ rest) (word_taken heading test s.0 word s.1)
+
+flavor_line_taken : (bytes : List ℕ) (flavor : Option (List ℕ)) (rest : List ℕ) → said_at flavor_said bytes ≡ Ok (flavor, rest) → bytes ≡ line (codes "flavor " ++ flavor_word flavor) ++ rest
+flavor_line_taken bytes flavor rest e =
+    let s = said_taken flavor_said bytes flavor rest e in
+    s.2 ∙ ap (λ t. line t ++ rest) (flavor_taken s.0 flavor s.1)
+
+-- the spelling up to some line
+abbrev pub up_to_version : List ℕ
+up_to_version = line (codes "poudriere-package 1")
+
+abbrev pub up_to_name : List ℕ → List ℕ
+up_to_name name = up_to_version ++ line (codes "name " ++ name)
+
+abbrev pub up_to_origin : List ℕ → List ℕ → List ℕ
+up_to_origin name origin = up_to_name name ++ line (codes "origin " ++ origin)
+
+abbrev pub up_to_flavor : List ℕ → List ℕ → Option (List ℕ) → List ℕ
+up_to_flavor name origin flavor = up_to_origin name origin ++ line (codes "flavor " ++ flavor_word flavor)
+
+abbrev pub up_to_options : List ℕ → List ℕ → Option (List ℕ) → List Switch → List ℕ
+up_to_options name origin flavor options = up_to_flavor name origin flavor ++ line (codes "options " ++ decimal (length options)) ++ flat_map option_line options
+
+abbrev pub up_to_depends : List ℕ → List ℕ → Option (List ℕ) → List Switch → List Depend → List ℕ
+up_to_depends name origin flavor options depends = up_to_options name origin flavor options ++ line (codes "depends " ++ decimal (length depends)) ++ flat_map depend_line depends
+
+files_taken : (name origin : List ℕ) (flavor : Option (List ℕ)) (options : List Switch) (depends : List Depend) (bytes : List ℕ) (p : PackageView) (rest : List ℕ)
+    → from_files name origin flavor options depends bytes ≡ Ok (p, rest) → up_to_depends name origin flavor options depends ++ bytes ≡ unsigned p ++ rest
+files_taken name origin flavor options depends bytes p rest e =
+    let b = bind_ok (listed_at (codes "files ") file_at bytes) (λ files. Ok (packed name origin flavor options depends files.0, files.1)) (p, rest) e in
+    let l = listed_taken (codes "files ") file_at file_piece file_item bytes b.0.0 b.0.1 b.1 in
+    let whole : up_to_depends name origin flavor options depends ++ bytes ≡ unsigned (packed name origin flavor options depends b.0.0) ++ b.0.1 =
+    joined_two (up_to_depends name origin flavor options depends) bytes (line (codes "files " ++ decimal (length b.0.0))) l.0 (flat_map file_piece b.0.0) b.0.1 l.1 l.2 in
+    subst (λ (x : PackageView × List ℕ). up_to_depends name origin flavor options depends ++ bytes ≡ unsigned x.0 ++ x.1) (ok_is (packed name origin flavor options depends b.0.0, b.0.1) (p, rest) b.2) whole
+
+depends_taken : (name origin : List ℕ) (flavor : Option (List ℕ)) (options : List Switch) (bytes : List ℕ) (p : PackageView) (rest : List ℕ)
+    → from_depends name origin flavor options bytes ≡ Ok (p, rest) → up_to_options name origin flavor options ++ bytes ≡ unsigned p ++ rest
+depends_taken name origin flavor options bytes p rest e =
+    let b = bind_ok (listed_at (codes "depends ") depend_at bytes) (λ depends. from_files name origin flavor options depends.0 depends.1) (p, rest) e in
+    let l = listed_taken (codes "depends ") depend_at depend_line depend_item bytes b.0.0 b.0.1 b.1 in
+    joined_two (up_to_options name origin flavor options) bytes (line (codes "depends " ++ decimal (length b.0.0))) l.0 (flat_map depend_line b.0.0) b.0.1 l.1 l.2
+    ∙ files_taken name origin flavor options b.0.0 b.0.1 p rest b.2
+
+options_taken : (name origin : List ℕ) (flavor : Option (List ℕ)) (bytes : List ℕ) (p : PackageView) (rest : List ℕ)
+    → from_options name origin flavor bytes ≡ Ok (p, rest) → up_to_flavor name origin flavor ++ bytes ≡ unsigned p ++ rest
+options_taken name origin flavor bytes p rest e =
+    let b = bind_ok (listed_at (codes "options ") option_at bytes) (λ options. from_depends name origin flavor options.0 options.1) (p, rest) e in
+    let l = listed_taken (codes "options ") option_at option_line option_item bytes b.0.0 b.0.1 b.1 in
+    joined_two (up_to_flavor name origin flavor) bytes (line (codes "options " ++ decimal (length b.0.0))) l.0 (flat_map option_line b.0.0) b.0.1 l.1 l.2
+    ∙ depends_taken name origin flavor b.0.0 b.0.1 p rest b.2
+
+from_flavor_taken : (name origin bytes : List ℕ) (p : PackageView) (rest : List ℕ) → from_flavor name origin bytes ≡ Ok (p, rest) → up_to_origin name origin ++ bytes ≡ unsigned p ++ rest
+from_flavor_taken name origin bytes p rest e =
+    let b = bind_ok (said_at flavor_said bytes) (λ flavor. from_options name origin flavor.0 flavor.1) (p, rest) e in
+    joined_one (up_to_origin name origin) bytes (line (codes "flavor " ++ flavor_word b.0.0)) b.0.1 (flavor_line_taken bytes b.0.0 b.0.1 b.1)
+    ∙ options_taken name origin b.0.0 b.0.1 p rest b.2
+
+from_origin_taken : (name bytes : List ℕ) (p : PackageView) (rest : List ℕ) → from_origin name bytes ≡ Ok (p, rest) → up_to_name name ++ bytes ≡ unsigned p ++ rest
+from_origin_taken name bytes p rest e =
+    let b = bind_ok (said_at (word_behind (codes "origin ") is_origin) bytes) (λ origin. from_flavor name origin.0 origin.1) (p, rest) e in
+    joined_one (up_to_name name) bytes (line (codes "origin " ++ b.0.0)) b.0.1 (word_line_taken (codes "origin ") is_origin bytes b.0.0 b.0.1 b.1)
+    ∙ from_flavor_taken name b.0.0 b.0.1 p rest b.2
+
+from_name_taken : (bytes : List ℕ) (p : PackageView) (rest : List ℕ) → from_name bytes ≡ Ok (p, rest) → up_to_version ++ bytes ≡ unsigned p ++ rest
+from_name_taken bytes p rest e =
+    let b = bind_ok (said_at (word_behind (codes "name ") is_package_name) bytes) (λ name. from_origin name.0 name.1) (p, rest) e in
+    joined_one up_to_version bytes (line (codes "name " ++ b.0.0)) b.0.1 (word_line_taken (codes "name ") is_package_name bytes b.0.0 b.0.1 b.1)
+    ∙ from_origin_taken b.0.0 b.0.1 p rest b.2
+
+pub unsigned_taken : (bytes : List ℕ) (p : PackageView) (rest : List ℕ) → unsigned_at bytes ≡ Ok (p, rest) → bytes ≡ unsigned p ++ rest
+unfolding unsigned_at
+unsigned_taken bytes p rest e =
+    let b = bind_ok (said_at (passing is_version_line) bytes) (λ version. from_name version.1) (p, rest) e in
+    version_taken bytes b.0.0 b.0.1 b.1 ∙ from_name_taken b.0.1 p rest b.2
+
+-- ---- the whole
+
+record IsSigned (bytes : List ℕ) (s : Signed) : Type 0 where
+  pub spelled : bytes ≡ signed_with s.stated s.read
+  pub before : take s.size bytes ≡ unsigned s.read
+
+signed_taken : (bytes : List ℕ) (s : Signed) → signed_at bytes ≡ Ok s → IsSigned bytes s
+unfolding signed_at
+signed_taken bytes s e =
+    let b = bind_ok (unsigned_at bytes) (λ p. said_at (word_behind (codes "sha256 ") is_digest) p.1 >>= λ digest. cond (length digest.1 == 0) (Ok (signed p.0 digest.0 (length bytes - length p.1))) (Err (Misfit (length digest.1)))) s e in
+    let c = bind_ok (said_at (word_behind (codes "sha256 ") is_digest) b.0.1) (λ digest. cond (length digest.1 == 0) (Ok (signed b.0.0 digest.0 (length bytes - length b.0.1))) (Err (Misfit (length digest.1)))) s b.2 in
+    let g = given_ok (length c.0.1 == 0) (Misfit (length c.0.1)) (signed b.0.0 c.0.0 (length bytes - length b.0.1)) s c.2 in
+    let u : bytes ≡ unsigned b.0.0 ++ b.0.1 = unsigned_taken bytes b.0.0 b.0.1 b.1 in
+    let nothing : c.0.1 ≡ [] = nil_from_length c.0.1 (eqb-true _ _ g.0) in
+    let last : b.0.1 ≡ line (codes "sha256 " ++ c.0.0) = word_line_taken (codes "sha256 ") is_digest b.0.1 c.0.0 c.0.1 c.1 ∙ ap (λ r. line (codes "sha256 " ++ c.0.0) ++ r) nothing ∙ append-nil _ in
+    let size : length bytes - length b.0.1 ≡ length (unsigned b.0.0) = omega (arith, ap length u, length-append (unsigned b.0.0) b.0.1) in
+    let made : IsSigned bytes (signed b.0.0 c.0.0 (length bytes - length b.0.1)) = record {
+      spelled = u ∙ ap (λ r. unsigned b.0.0 ++ r) last;
+      before = ap₂ take size u ∙ take-append_seam (unsigned b.0.0) b.0.1;
+    } in
+    subst (IsSigned bytes) g.1 made
+
+abbrev read_as : PackageView → Result PackageView RecordError
+read_as x = Ok x
+
+read_is : (x y : PackageView) → read_as x ≡ read_as y → x ≡ y
+read_is x y e = cc
+
+given_read : (b : Bool) (x y : PackageView) (d : RecordError) → cond b (read_as x) (Err d) ≡ Ok y → (b ≡ true) × (x ≡ y)
+given_read true x y d e = (refl, read_is x y e)
+given_read false x y d e = absurd cc
+
+abbrev refused : List ℕ → List ℕ → Result PackageView RecordError
+refused a b = Err (records.BadDigest a b)
+
+first_is : (a b c d : List ℕ) → refused a b ≡ refused c d → a ≡ c
+first_is a b c d e = cc
+
+second_is : (a b c d : List ℕ) → refused a b ≡ refused c d → b ≡ d
+second_is a b c d e = cc
+
+given_other : (t : Bool) (x : PackageView) (a b c d : List ℕ) → cond t (Ok x) (refused a b) ≡ refused c d → (t ≡ false) × (a ≡ c) × (b ≡ d)
+given_other true x a b c d e = absurd cc
+given_other false x a b c d e = (refl, first_is a b c d e, second_is a b c d e)
+
+judged_ok : (bytes : List ℕ) (r : Result Signed Fault) (p : PackageView) → judged bytes r ≡ Ok p → (s : Signed) × (r ≡ Ok s) × (s.stated ≡ digest_of s.size bytes) × (s.read ≡ p)
+unfolding judged
+judged_ok bytes (Err Short) p e = absurd cc
+judged_ok bytes (Err (Misfit left)) p e = absurd cc
+judged_ok bytes (Ok s) p e =
+    let g = given_read (bytes_eq s.stated (digest_of s.size bytes)) s.read p (records.BadDigest s.stated (digest_of s.size bytes)) e in
+    (s, refl, (bytes_eq-Decides s.stated (digest_of s.size bytes)).0 g.0, g.1)
+
+found_spelled : (bytes : List ℕ) (p : PackageView) → record_of bytes ≡ Ok p → bytes ≡ spelling p
+found_spelled bytes p e =
+    let j = judged_ok bytes (signed_at bytes) p e in
+    let t = signed_taken bytes j.0 j.1 in
+    t.spelled ∙ ap (λ d. signed_with d j.0.read) (j.2 ∙ ap (λ b. encode_lower (sha256 b)) t.before) ∙ ap spelling j.3
+
+pub is_spelled : (bytes : List ℕ) (r : Result PackageView RecordError) → IfOk r (λ p. record_of bytes ≡ Ok p) → IfOk r (λ p. bytes ≡ spelling p)
+is_spelled bytes (Ok p) h = found_spelled bytes p h
+is_spelled bytes (Err e) h = tt
+
+judged_err : (bytes : List ℕ) (r : Result Signed Fault) (stated found : List ℕ) → judged bytes r ≡ Err (records.BadDigest stated found) → (s : Signed) × (r ≡ Ok s) × (s.stated ≡ stated) × (digest_of s.size bytes ≡ found) × (stated ≢ found)
+unfolding judged
+judged_err bytes (Err Short) stated found e = absurd cc
+judged_err bytes (Err (Misfit left)) stated found e = absurd cc
+judged_err bytes (Ok s) stated found e =
+    let g = given_other (bytes_eq s.stated (digest_of s.size bytes)) s.read s.stated (digest_of s.size bytes) stated found e in
+    let differs : s.stated ≡ digest_of s.size bytes → ⊥ = λ q. let yes = (bytes_eq-Decides s.stated (digest_of s.size bytes)).1 q in let no = g.0 in let both : true ≡ false = sym yes ∙ no in cc in
+    (s, refl, g.1, g.2, λ q. differs (g.1 ∙ q ∙ sym g.2))
+
+for_digest : (bytes : List ℕ) (e : RecordError) → (e ≢ records.NoMemory → record_of bytes ≡ Err e) → IsForDigest bytes e
+for_digest bytes records.Short h = tt
+for_digest bytes (records.BadField place) h = tt
+for_digest bytes (records.BadDigest stated found) h =
+    let j = judged_err bytes (signed_at bytes) stated found (h (λ q. absurd cc)) in
+    let t = signed_taken bytes j.0 j.1 in
+    record {
+      read = j.0.read;
+      spelled = t.spelled ∙ ap (λ d. signed_with d j.0.read) j.2;
+      digest = sym j.3 ∙ ap (λ b. encode_lower (sha256 b)) t.before;
+      differs = j.4;
+    }
+for_digest bytes records.NoMemory h = tt
+
+pub is_for_digest : (bytes : List ℕ) (r : Result PackageView RecordError) → IfErr r (λ e. e ≢ records.NoMemory → record_of bytes ≡ Err e) → IfErr r (λ e. IsForDigest bytes e)
+is_for_digest bytes (Ok p) h = tt
+is_for_digest bytes (Err e) h = for_digest bytes e h

@@ -1,0 +1,316 @@
+-- What is spelled as a package's record is read, whatever follows the lines before its digest.
+use Rattle.std.proofs.Common.{◌≡◌, ℕ, ◌-◌, ◌*◌, ◌^◌, ◌<◌, suc, Bool, true, false, List, [], ◌∷◌, ◌++◌, length, get_or, map, codes, arith, refl, ap, ap₂, sym, subst, ◌∙◌, append_assoc, append-nil}
+use Rattle.std.specs.Prelude.{◌&&◌, ◌==◌, ◌≢◌, not, nat_le, Option, Some, None, Result, Ok, Err, IfOk, IfErr, MatchResult, cond, bytes_eq, IsTrue, IfSome}
+use Rattle.std.specs.Option.{option_and_then}
+use Rattle.std.specs.List.{flat_map, list_all, AllByRecursion}
+use Rattle.std.specs.Fmt.{decimal}
+use Rattle.std.specs.Ordering.{is_lt}
+use Rattle.std.proofs.lemmas.Bool.{and_parts}
+use Rattle.std.proofs.lemmas.List.{length-append, length-map, nil_from_length, map-append, get_or_append_left}
+use Rattle.std.proofs.lemmas.List.Concat.{flat_map-cons}
+use Rattle.std.proofs.lemmas.List.Folds.{list_all-append}
+use Rattle.std.proofs.lemmas.Map.Keys.{Less-from_sorted}
+use Rattle.std.proofs.lemmas.Option.{slice_get-get_or}
+use Rattle.std.proofs.lemmas.Slice.Eq.{bytes_eq-Decides}
+use Rattle.std.proofs.Math.ListN.{get_or-map}
+use Rattle.std.proofs.Math.Seq.{take-append_seam, get_or-append_seam}
+use Rattle.sha2.specs.Sha256.{sha256}
+use Rattle.sha2.proofs.Facts256.{length-sha256}
+use Rattle.hex.specs.Hex.{encode_lower, lower_digits}
+use Rattle.hex.proofs.HexLemmas.{length-encode_with}
+use Rattle.bulk_base.specs.declared.file.FileItem.{FileItem}
+use Rattle.bulk_base.specs.declared.file.Switch.{Switch}
+use Rattle.bulk_base.specs.Names.{is_flavor, is_option_name, IsNode, IsPackageName}
+use Rattle.bulk_base.specs.Text.{is_text, is_text_byte, has_text_bytes}
+use Rattle.bulk_base.specs.Path.{is_path, is_below}
+use Rattle.bulk_model.specs.declared.depend.Depend.{Depend}
+use Rattle.bulk_model.specs.Facts.{IsOptionList, IsDependList, IsFileList, paths_of, comes_before, each_before}
+use Rattle.bulk_model.specs.Views.{PackageView}
+use Rattle.bulk_model.specs.Spelling.{line, flavor_word, switch_word, kind_word, option_line, depend_line, file_piece, unsigned, signed_with, spelling}
+use Rattle.outside.specs.Contents.{IsAscending, has_no_folder}
+use Rattle.pkg_record.specs.declared.fault.Fault.{Fault}
+use Rattle.pkg_record.specs.declared.fault.Fault.TheVariants.{Misfit}
+use Rattle.pkg_record.specs.declared.fault.RecordError.{RecordError}
+use Rattle.pkg_record.specs.declared.fault.RecordError.TheVariants as records
+use Rattle.pkg_record.specs.Forms.{is_origin, is_package_name, is_digest, is_hex_byte}
+use Rattle.pkg_record.specs.Said.{passing, word_behind, flavor_said, count_behind, option_said, depend_said, file_said}
+use Rattle.pkg_record.specs.Reading.{◌>>=◌, said_at, piece_at, last_of, option_follows, next_option, option_at, depend_follows, next_depend, depend_at, path_follows, is_record_path, is_next_path, next_file, file_at, items_at, listed_at, unsigned_at, signed, signed_at, digest_of, judged, record_of}
+use Rattle.pkg_record.specs.Laws.{HasRecord}
+use Rattle.pkg_record.proofs.Names.{list_all-weaken, option_name, node_plain, package_name_plain, origin_plain, flavor_name, digest_text}
+use Rattle.pkg_record.proofs.NamesAgain.{both_true, differs, Lacks, lacks_joined, origin_again, node_again, name_again}
+use Rattle.pkg_record.proofs.SaidAgain.{said_again, word_again, flavor_again, count_again, plain_line, decimal_plain, option_again, kind_line, depend_again, file_again, piece_again}
+use Rattle.pkg_record.proofs.Taken.{ok_is}
+use Rattle.pkg_record.proofs.Lists.{order}
+use Rattle.pkg_record.proofs.HexDigits.{hex_bytes, sha256_bytes}
+use Rattle.pkg_record.proofs.Spelled.{file_made, packed, from_files, from_depends, from_options, from_flavor, from_origin, from_name, is_version_line, up_to_version, up_to_name, up_to_origin, up_to_flavor, up_to_options, up_to_depends}
+
+-- ---- one item among others
+
+follows_by : {X : Type 0} (before : List X) (x : X) (test : Option X → Bool) → test None ≡ true → (0 < length before → test (Some (get_or before (length before - 1) x)) ≡ true) → test (last_of before) ≡ true
+follows_by [] x test h k = h
+follows_by (b ∷ before) x test h k = ap test (slice_get-get_or (b ∷ before) (length (b ∷ before) - 1) x (omega arith)) ∙ k (omega arith)
+
+last_less : {X : Type 0} (f : X → List ℕ) (before : List X) (x : X) (more : List X) → IsAscending (map f (before ++ x ∷ more)) → 0 < length before → is_lt (order (f (get_or before (length before - 1) x)) (f x)) ≡ true
+last_less f before x more s some =
+    let i = length before - 1 in
+    let less = Less-from_sorted order (map f (before ++ x ∷ more)) i (length before) (f x) s (omega arith) (omega (arith, length-map (before ++ x ∷ more) f, length-append before (x ∷ more))) in
+    let e : get_or (map f (before ++ x ∷ more)) i (f x) ≡ f (get_or before i x) = get_or-map f (before ++ x ∷ more) i x ∙ ap f (get_or_append_left before (x ∷ more) x i (omega arith)) in
+    let g : get_or (map f (before ++ x ∷ more)) (length before) (f x) ≡ f x = get_or-map f (before ++ x ∷ more) (length before) x ∙ ap f (get_or-append_seam before x more x) in
+    ap is_lt (ap₂ order (sym e) (sym g) ∙ less)
+
+test_at : {X Y : Type 0} (p : Y → Bool) (f : X → Y) (before : List X) (x : X) (more : List X) → list_all p (map f (before ++ x ∷ more)) ≡ true → (list_all p (map f before) ≡ true) × (p (f x) ≡ true)
+test_at p f before x more h =
+    let a = and_parts (list_all p (map f before)) (list_all p (map f (x ∷ more))) (sym (list_all-append p (map f before) (map f (x ∷ more))) ∙ ap (list_all p) (sym (map-append f before (x ∷ more))) ∙ h) in
+    (a.0, (and_parts (p (f x)) (list_all p (map f more)) a.1).0)
+
+all_at : {X : Type 0} (P : X → Type 0) (before : List X) (x : X) (more : List X) → AllByRecursion P (before ++ x ∷ more) → P x
+all_at P [] x more h = h.0
+all_at P (y ∷ before) x more h = all_at P before x more h.1
+
+each_at : (before : List Depend) (x : Depend) (more : List Depend) → each_before (before ++ x ∷ more) ≡ true → 0 < length before → comes_before (get_or before (length before - 1) x) x ≡ true
+each_at [] x more h some = absurd (omega arith)
+each_at (a ∷ []) x more h some = (and_parts (comes_before a x) (each_before (x ∷ more)) h).0
+each_at (a ∷ b ∷ before) x more h some =
+    let e : length (a ∷ b ∷ before) - 1 ≡ suc (length (b ∷ before) - 1) = omega arith in
+    ap (λ i. comes_before (get_or (a ∷ b ∷ before) i x) x) e ∙ each_at (b ∷ before) x more (and_parts (comes_before a b) (each_before (b ∷ before ++ x ∷ more)) h).1 (omega arith)
+
+switch_line : (on : Bool) → Lacks 10 (switch_word on)
+switch_line true = refl
+switch_line false = refl
+
+option_item_again : (before : List Switch) (x : Switch) (more : List Switch) (rest : List ℕ) → IsOptionList (before ++ x ∷ more) → option_at before (option_line x ++ rest) ≡ Ok (x, rest)
+unfolding option_at
+option_item_again before x more rest form =
+    let name : is_option_name x.name ≡ true = (test_at is_option_name (λ o. o.name) before x more form.forms).1 in
+    let follows : option_follows (last_of before) x ≡ true = follows_by before x (λ l. option_follows l x) refl (last_less (λ o. o.name) before x more form.order) in
+    let text = codes "option " ++ x.name ++ codes " " ++ switch_word x.on in
+    let lacks : Lacks 10 text = lacks_joined 10 (codes "option " ++ x.name ++ codes " ") (switch_word x.on) (lacks_joined 10 (codes "option " ++ x.name) (codes " ") (lacks_joined 10 (codes "option ") x.name refl (plain_line x.name (option_name x.name name).1)) refl) (switch_line x.on) in
+    said_again (λ t. option_and_then (next_option before) (option_said t)) text x rest lacks (ap (option_and_then (next_option before)) (option_again x name) ∙ ap (λ b. cond b (Some x) None) follows)
+
+depend_item_again : (before : List Depend) (x : Depend) (more : List Depend) (rest : List ℕ) → IsDependList (before ++ x ∷ more) → depend_at before (depend_line x ++ rest) ≡ Ok (x, rest)
+unfolding depend_at
+depend_item_again before x more rest form =
+    let node = node_again x.node (all_at (λ d. IsNode d.node) before x more form.nodes) in
+    let name = name_again x.name (all_at (λ d. IsPackageName d.name) before x more form.names) in
+    let follows : depend_follows (last_of before) x ≡ true = follows_by before x (λ l. depend_follows l x) refl (each_at before x more form.order) in
+    let head = codes "depend " ++ kind_word x.kind ++ codes " " in
+    let lacks_head : Lacks 10 head = lacks_joined 10 (codes "depend " ++ kind_word x.kind) (codes " ") (lacks_joined 10 (codes "depend ") (kind_word x.kind) refl (kind_line x.kind)) refl in
+    let lacks_node : Lacks 10 (head ++ x.node) = lacks_joined 10 head x.node lacks_head (plain_line x.node (node_plain x.node node)) in
+    let lacks : Lacks 10 (head ++ x.node ++ codes " " ++ x.name) = lacks_joined 10 (head ++ x.node ++ codes " ") x.name (lacks_joined 10 (head ++ x.node) (codes " ") lacks_node refl) (plain_line x.name (package_name_plain x.name name)) in
+    said_again (λ t. option_and_then (next_depend before) (depend_said t)) (head ++ x.node ++ codes " " ++ x.name) x rest lacks (ap (option_and_then (next_depend before)) (depend_again x node name) ∙ ap (λ b. cond b (Some x) None) follows)
+
+-- ---- files
+
+pub record AreFiles (files : List FileItem) : Type 0 where
+  pub facts : IsFileList 1018 files
+  pub paths : IsTrue (list_all is_record_path (paths_of files))
+  pub sizes : AllByRecursion (λ f. length f.bytes < 2 ^ 64) files
+
+apart_at : (path : List ℕ) (more all : List (List ℕ)) (before folders : List (List ℕ)) → all ≡ before ++ path ∷ more → list_all (λ f. list_all (λ q. not (is_below f q)) all) folders ≡ true → list_all (λ f. not (is_below f path)) folders ≡ true
+apart_at path more all before [] e h = refl
+apart_at path more all before (f ∷ folders) e h =
+    let a = and_parts (list_all (λ q. not (is_below f q)) all) _ h in
+    let here : list_all (λ q. not (is_below f q)) (before ++ path ∷ more) ≡ true = ap (list_all (λ q. not (is_below f q))) (sym e) ∙ a.0 in
+    let b = and_parts (list_all (λ q. not (is_below f q)) before) (list_all (λ q. not (is_below f q)) (path ∷ more)) (sym (list_all-append (λ q. not (is_below f q)) before (path ∷ more)) ∙ here) in
+    both_true _ _ (and_parts (not (is_below f path)) _ b.1).0 (apart_at path more all before folders e a.1)
+
+free_before : (before : List FileItem) (x : FileItem) (more : List FileItem) → has_no_folder (paths_of (before ++ x ∷ more)) ≡ true → list_all (λ f. not (is_below f x.path)) (paths_of before) ≡ true
+free_before before x more h =
+    let all = paths_of (before ++ x ∷ more) in
+    let e : all ≡ paths_of before ++ x.path ∷ paths_of more = map-append (λ f. f.path) before (x ∷ more) in
+    let front = (test_at (λ f. list_all (λ q. not (is_below f q)) all) (λ f. f.path) before x more h).0 in
+    apart_at x.path (paths_of more) all (paths_of before) (paths_of before) e front
+
+text_line_byte : (b : ℕ) → is_text_byte b ≡ true → differs 10 b ≡ true
+text_line_byte b h = grind arith
+
+record_path_line : (path : List ℕ) → is_record_path path ≡ true → Lacks 10 path
+record_path_line path h =
+    let a = and_parts (is_text path && is_path path) (nat_le (length path) 1018) h in
+    let b = and_parts (is_text path) (is_path path) a.0 in
+    let c = and_parts _ (has_text_bytes path) b.0 in
+    list_all-weaken is_text_byte (differs 10) text_line_byte path c.1
+
+file_item_again : (before : List FileItem) (x : FileItem) (more : List FileItem) (rest : List ℕ) → AreFiles (before ++ x ∷ more) → file_at before (file_piece x ++ rest) ≡ Ok (x, rest)
+unfolding file_at
+file_item_again before x more rest form =
+    let path : is_record_path x.path ≡ true = (test_at is_record_path (λ f. f.path) before x more form.paths).1 in
+    let size : length x.bytes < 2 ^ 64 = all_at (λ f. length f.bytes < 2 ^ 64) before x more form.sizes in
+    let follows : path_follows (last_of before) x.path ≡ true = follows_by before x (λ l. path_follows l x.path) refl (last_less (λ f. f.path) before x more form.facts.order) in
+    let next : is_next_path before x.path ≡ true = both_true _ _ (both_true _ _ path follows) (free_before before x more form.facts.apart) in
+    let text = codes "file " ++ decimal (length x.bytes) ++ codes " " ++ x.path in
+    let lacks : Lacks 10 text =
+    lacks_joined 10 (codes "file " ++ decimal (length x.bytes) ++ codes " ") x.path
+    (lacks_joined 10 (codes "file " ++ decimal (length x.bytes)) (codes " ") (lacks_joined 10 (codes "file ") (decimal (length x.bytes)) refl (plain_line (decimal (length x.bytes)) (decimal_plain (length x.bytes) size))) refl)
+    (record_path_line x.path path) in
+    let head = said_again (λ t. option_and_then (next_file before) (file_said t)) text (length x.bytes, x.path) (line x.bytes ++ rest) lacks
+    (ap (option_and_then (next_file before)) (file_again (length x.bytes) x.path size) ∙ ap (λ b. cond b (Some (length x.bytes, x.path)) None) next) in
+    ap (file_at before) (append_assoc (line text) (line x.bytes) rest)
+    ∙ ap (λ r. r >>= λ h. piece_at h.0.0 h.1 >>= λ piece. Ok (file_made h.0.1 piece.0, piece.1)) head
+    ∙ ap (λ r. r >>= λ piece. Ok (file_made x.path piece.0, piece.1)) (piece_again x.bytes rest)
+
+-- ---- lists
+
+abbrev GivesBack : {X : Type 0} → (List X → List ℕ → Result (X × List ℕ) Fault) → (X → List ℕ) → (List X → Type 0) → Type 0
+GivesBack {X} item spell Form = (before : List X) (x : X) (more : List X) (rest : List ℕ) → Form (before ++ x ∷ more) → item before (spell x ++ rest) ≡ Ok (x, rest)
+
+items_again : {X : Type 0} (item : List X → List ℕ → Result (X × List ℕ) Fault) (spell : X → List ℕ) (Form : List X → Type 0) → GivesBack item spell Form → (before more : List X) (rest : List ℕ) → Form (before ++ more)
+    → items_at item (length more) before (flat_map spell more ++ rest) ≡ Ok (before ++ more, rest)
+unfolding items_at
+items_again item spell Form again before [] rest form = ap (λ b. Ok (b, rest)) (sym (append-nil before))
+items_again item spell Form again before (x ∷ more) rest form =
+    let regrouped : flat_map spell (x ∷ more) ++ rest ≡ spell x ++ (flat_map spell more ++ rest) = ap (λ t. t ++ rest) (flat_map-cons spell x more) ∙ append_assoc (spell x) (flat_map spell more) rest in
+    let e : (before ++ x ∷ []) ++ more ≡ before ++ x ∷ more = append_assoc before (x ∷ []) more in
+    ap (items_at item (suc (length more)) before) regrouped
+    ∙ ap (λ r. r >>= λ y. items_at item (length more) (before ++ y.0 ∷ []) y.1) (again before x more (flat_map spell more ++ rest) form)
+    ∙ items_again item spell Form again (before ++ x ∷ []) more rest (subst Form (sym e) form)
+    ∙ ap (λ b. Ok (b, rest)) e
+
+listed_again : {X : Type 0} (heading : List ℕ) (item : List X → List ℕ → Result (X × List ℕ) Fault) (spell : X → List ℕ) (Form : List X → Type 0) → GivesBack item spell Form → Lacks 10 heading → (all : List X) (rest : List ℕ) → Form all → length all < 2 ^ 64
+    → listed_at heading item (line (heading ++ decimal (length all)) ++ flat_map spell all ++ rest) ≡ Ok (all, rest)
+unfolding listed_at
+listed_again heading item spell Form again h all rest form few =
+    let lacks : Lacks 10 (heading ++ decimal (length all)) = lacks_joined 10 heading (decimal (length all)) h (plain_line (decimal (length all)) (decimal_plain (length all) few)) in
+    ap (listed_at heading item) (append_assoc (line (heading ++ decimal (length all))) (flat_map spell all) rest)
+    ∙ ap (λ r. r >>= λ count. items_at item count.0 [] count.1) (said_again (count_behind heading) (heading ++ decimal (length all)) (length all) (flat_map spell all ++ rest) lacks (count_again heading (length all) few))
+    ∙ items_again item spell Form again [] all rest form
+
+-- ---- the lines before the digest
+
+word_line_again : (heading : List ℕ) (test : List ℕ → Bool) (word rest : List ℕ) → Lacks 10 heading → Lacks 10 word → test word ≡ true → said_at (word_behind heading test) (line (heading ++ word) ++ rest) ≡ Ok (word, rest)
+word_line_again heading test word rest h w t = said_again (word_behind heading test) (heading ++ word) word rest (lacks_joined 10 heading word h w) (word_again heading test word t)
+
+flavor_line : (flavor : Option (List ℕ)) → IfSome flavor (λ f. IsTrue (is_flavor f)) → Lacks 10 (flavor_word flavor)
+flavor_line None h = refl
+flavor_line (Some f) h = plain_line f (flavor_name f h).1
+
+abbrev list_text : {X : Type 0} → List ℕ → (X → List ℕ) → List X → List ℕ
+list_text heading spell all = line (heading ++ decimal (length all)) ++ flat_map spell all
+
+abbrev after_depends : PackageView → List ℕ → List ℕ
+after_depends p rest = list_text (codes "files ") file_piece p.files ++ rest
+
+abbrev after_options : PackageView → List ℕ → List ℕ
+after_options p rest = list_text (codes "depends ") depend_line p.depends ++ after_depends p rest
+
+abbrev after_flavor : PackageView → List ℕ → List ℕ
+after_flavor p rest = list_text (codes "options ") option_line p.options ++ after_options p rest
+
+abbrev after_origin : PackageView → List ℕ → List ℕ
+after_origin p rest = line (codes "flavor " ++ flavor_word p.flavor) ++ after_flavor p rest
+
+abbrev after_name : PackageView → List ℕ → List ℕ
+after_name p rest = line (codes "origin " ++ p.origin) ++ after_origin p rest
+
+abbrev after_version : PackageView → List ℕ → List ℕ
+after_version p rest = line (codes "name " ++ p.name) ++ after_name p rest
+
+grouped : (x l f t : List ℕ) → (x ++ l ++ f) ++ t ≡ x ++ ((l ++ f) ++ t)
+grouped x l f t = append_assoc (x ++ l) f t ∙ append_assoc x l (f ++ t) ∙ ap (λ r. x ++ r) (sym (append_assoc l f t))
+
+regrouped : (p : PackageView) (rest : List ℕ) → unsigned p ++ rest ≡ line (codes "poudriere-package 1") ++ after_version p rest
+regrouped p rest =
+    grouped (up_to_depends p.name p.origin p.flavor p.options p.depends) (line (codes "files " ++ decimal (length p.files))) (flat_map file_piece p.files) rest
+    ∙ grouped (up_to_options p.name p.origin p.flavor p.options) (line (codes "depends " ++ decimal (length p.depends))) (flat_map depend_line p.depends) (after_depends p rest)
+    ∙ grouped (up_to_flavor p.name p.origin p.flavor) (line (codes "options " ++ decimal (length p.options))) (flat_map option_line p.options) (after_options p rest)
+    ∙ append_assoc (up_to_origin p.name p.origin) (line (codes "flavor " ++ flavor_word p.flavor)) (after_flavor p rest)
+    ∙ append_assoc (up_to_name p.name) (line (codes "origin " ++ p.origin)) (after_origin p rest)
+    ∙ append_assoc up_to_version (line (codes "name " ++ p.name)) (after_name p rest)
+
+files_again : (p : PackageView) (rest : List ℕ) → HasRecord p → from_files p.name p.origin p.flavor p.options p.depends (after_depends p rest) ≡ Ok (p, rest)
+files_again p rest h =
+    let form : AreFiles p.files = record { facts = h.facts.files; paths = h.paths; sizes = h.sizes } in
+    ap (λ r. r >>= λ files. Ok (packed p.name p.origin p.flavor p.options p.depends files.0, files.1)) (listed_again (codes "files ") file_at file_piece AreFiles file_item_again refl p.files rest form h.files)
+
+depends_again : (p : PackageView) (rest : List ℕ) → HasRecord p → from_depends p.name p.origin p.flavor p.options (after_options p rest) ≡ Ok (p, rest)
+depends_again p rest h =
+    ap (λ r. r >>= λ depends. from_files p.name p.origin p.flavor p.options depends.0 depends.1) (listed_again (codes "depends ") depend_at depend_line IsDependList depend_item_again refl p.depends (after_depends p rest) h.facts.depends h.depends)
+    ∙ files_again p rest h
+
+options_again : (p : PackageView) (rest : List ℕ) → HasRecord p → from_options p.name p.origin p.flavor (after_flavor p rest) ≡ Ok (p, rest)
+options_again p rest h =
+    ap (λ r. r >>= λ options. from_depends p.name p.origin p.flavor options.0 options.1) (listed_again (codes "options ") option_at option_line IsOptionList option_item_again refl p.options (after_options p rest) h.facts.options h.options)
+    ∙ depends_again p rest h
+
+from_flavor_again : (p : PackageView) (rest : List ℕ) → HasRecord p → from_flavor p.name p.origin (after_origin p rest) ≡ Ok (p, rest)
+from_flavor_again p rest h =
+    ap (λ r. r >>= λ flavor. from_options p.name p.origin flavor.0 flavor.1)
+    (said_again flavor_said (codes "flavor " ++ flavor_word p.flavor) p.flavor (after_flavor p rest) (lacks_joined 10 (codes "flavor ") (flavor_word p.flavor) refl (flavor_line p.flavor h.facts.flavor)) (flavor_again p.flavor h.facts.flavor))
+    ∙ options_again p rest h
+
+from_origin_again : (p : PackageView) (rest : List ℕ) → HasRecord p → from_origin p.name (after_name p rest) ≡ Ok (p, rest)
+from_origin_again p rest h =
+    let form = origin_again p.origin h.facts.origin in
+    ap (λ r. r >>= λ origin. from_flavor p.name origin.0 origin.1) (word_line_again (codes "origin ") is_origin p.origin (after_origin p rest) refl (plain_line p.origin (origin_plain p.origin form)) form)
+    ∙ from_flavor_again p rest h
+
+from_name_again : (p : PackageView) (rest : List ℕ) → HasRecord p → from_name (after_version p rest) ≡ Ok (p, rest)
+from_name_again p rest h =
+    let form = name_again p.name h.facts.name in
+    ap (λ r. r >>= λ name. from_origin name.0 name.1) (word_line_again (codes "name ") is_package_name p.name (after_name p rest) refl (plain_line p.name (package_name_plain p.name form)) form)
+    ∙ from_origin_again p rest h
+
+unsigned_again : (p : PackageView) (rest : List ℕ) → HasRecord p → unsigned_at (unsigned p ++ rest) ≡ Ok (p, rest)
+unfolding unsigned_at
+unsigned_again p rest h =
+    ap unsigned_at (regrouped p rest)
+    ∙ ap (λ r. r >>= λ version. from_name version.1) (said_again (passing is_version_line) (codes "poudriere-package 1") (codes "poudriere-package 1") (after_version p rest) refl refl)
+    ∙ from_name_again p rest h
+
+-- ---- the whole
+
+abbrev pair : PackageView → List ℕ → Result (PackageView × List ℕ) Fault
+pair p rest = Ok (p, rest)
+
+pair_is : (p q : PackageView) (a b : List ℕ) → pair p a ≡ pair q b → p ≡ q
+pair_is p q a b e = ap (λ (x : PackageView × List ℕ). x.0) (ok_is (p, a) (q, b) e)
+
+pub one_record : (p q : PackageView) (more : List ℕ) → HasRecord p → HasRecord q → spelling q ≡ spelling p ++ more → (p ≡ q) × (more ≡ [])
+one_record p q more h k e =
+    let last_p = line (codes "sha256 " ++ encode_lower (sha256 (unsigned p))) in
+    let last_q = line (codes "sha256 " ++ encode_lower (sha256 (unsigned q))) in
+    let same : p ≡ q = pair_is p q (last_p ++ more) last_q (sym (unsigned_again p (last_p ++ more) h) ∙ ap unsigned_at (sym (append_assoc (unsigned p) last_p more) ∙ sym e) ∙ unsigned_again q last_q k) in
+    (same, nil_from_length more (omega (arith, ap length (ap spelling same ∙ e), length-append (spelling p) more)))
+
+digest_form : (bytes : List ℕ) → is_digest (encode_lower (sha256 bytes)) ≡ true
+digest_form bytes = sized (encode_lower (sha256 bytes)) (length-encode_with lower_digits (sha256 bytes) ∙ ap (λ n. 2 * n) (length-sha256 bytes)) (hex_bytes (sha256 bytes) (sha256_bytes bytes))
+  where
+    sized : (text : List ℕ) → length text ≡ 64 → list_all is_hex_byte text ≡ true → is_digest text ≡ true
+    sized text size h = both_true _ _ (both_true _ _ (ap (nat_le 64) size) (ap (λ n. nat_le n 64) size)) h
+
+signed_again : (p : PackageView) (stated : List ℕ) → HasRecord p → is_digest stated ≡ true → signed_at (signed_with stated p) ≡ Ok (signed p stated (length (unsigned p)))
+unfolding signed_at
+signed_again p stated h d =
+    let last = line (codes "sha256 " ++ stated) in
+    let whole = unsigned p ++ last in
+    let ended : said_at (word_behind (codes "sha256 ") is_digest) last ≡ Ok (stated, []) = ap (said_at (word_behind (codes "sha256 ") is_digest)) (sym (append-nil last)) ∙ word_line_again (codes "sha256 ") is_digest stated [] refl (plain_line stated (digest_text stated d)) d in
+    ap (λ r. r >>= λ x. said_at (word_behind (codes "sha256 ") is_digest) x.1 >>= λ digest. cond (length digest.1 == 0) (Ok (signed x.0 digest.0 (length whole - length x.1))) (Err (Misfit (length digest.1)))) (unsigned_again p last h)
+    ∙ ap (λ r. r >>= λ digest. cond (length digest.1 == 0) (Ok (signed p digest.0 (length whole - length last))) (Err (Misfit (length digest.1)))) ended
+    ∙ ap (λ n. Ok (signed p stated n)) (omega (arith, length-append (unsigned p) last))
+
+record_again : (p : PackageView) → HasRecord p → record_of (spelling p) ≡ Ok p
+unfolding judged
+record_again p h =
+    let stated = encode_lower (sha256 (unsigned p)) in
+    let last = line (codes "sha256 " ++ stated) in
+    let found : digest_of (length (unsigned p)) (spelling p) ≡ stated = ap (λ b. encode_lower (sha256 b)) (take-append_seam (unsigned p) last) in
+    ap (judged (spelling p)) (signed_again p stated h (digest_form (unsigned p)))
+    ∙ ap (λ d. cond (bytes_eq stated d) (Ok p) (Err (records.BadDigest stated d))) found
+    ∙ ap (λ b. cond b (Ok p) (Err (records.BadDigest stated stated))) ((bytes_eq-Decides stated stated).1 refl)
+
+abbrev read_ok : PackageView → Result PackageView RecordError
+read_ok p = Ok p
+
+ok_same : (p q : PackageView) → read_ok p ≡ read_ok q → p ≡ q
+ok_same p q e = cc
+
+only_memory : (p : PackageView) (e : RecordError) → (e ≢ records.NoMemory → read_ok p ≡ Err e) → e ≡ records.NoMemory
+only_memory p records.Short h = let no = h (λ q. absurd cc) in cc
+only_memory p (records.BadField place) h = let no = h (λ q. absurd cc) in cc
+only_memory p (records.BadDigest stated found) h = let no = h (λ q. absurd cc) in cc
+only_memory p records.NoMemory h = refl
+
+pub is_read : (bytes : List ℕ) (r : Result PackageView RecordError) → IfOk r (λ p. record_of bytes ≡ Ok p) → IfErr r (λ e. e ≢ records.NoMemory → record_of bytes ≡ Err e)
+    → (p : PackageView) → HasRecord p → bytes ≡ spelling p → MatchResult r (λ x. x ≡ p) (λ e. e ≡ records.NoMemory)
+is_read bytes (Ok x) ok err p h e = ok_same x p (sym ok ∙ ap record_of e ∙ record_again p h)
+is_read bytes (Err x) ok err p h e = only_memory p x (λ n. sym (ap record_of e ∙ record_again p h) ∙ err n)

@@ -1,0 +1,4 @@
+pub mod Forms
+pub mod Said
+pub mod Reading
+pub mod Laws

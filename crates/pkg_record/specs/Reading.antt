@@ -1,0 +1,154 @@
+-- A record read from left to right, with the first line or piece that does not fit (docs/FORMATS.md).
+use Rattle.std.specs.Prelude.{◌≡◌, ℕ, zero, suc, Bool, true, not, ◌+◌, ◌-◌, ◌&&◌, ◌==◌, nat_lt, nat_le, List, [], ◌∷◌, ◌++◌, length, take, drop, codes, slice_index, slice_get, bytes_eq, Option, Some, None, Result, Ok, Err, if◌then◌else◌}
+use Rattle.std.specs.Option.{option_and_then}
+use Rattle.std.specs.List.{list_all, position_or_len}
+use Rattle.std.specs.Ordering.{nat_cmp, is_lt}
+use Rattle.std.specs.Cmp.Lexicographic.{slice_cmp}
+use Rattle.sha2.specs.Sha256.{sha256}
+use Rattle.hex.specs.Hex.{encode_lower}
+use Rattle.bulk_base.specs.Text.{is_text}
+use Rattle.bulk_base.specs.Path.{is_path, is_below}
+use Rattle.bulk_base.specs.declared.file.FileItem.{FileItem}
+use Rattle.bulk_base.specs.declared.file.Switch.{Switch}
+use Rattle.bulk_model.specs.declared.depend.Depend.{Depend}
+use Rattle.bulk_model.specs.Facts.{paths_of, comes_before}
+use Rattle.bulk_model.specs.Views.{PackageView}
+use Rattle.pkg_record.specs.declared.fault.Fault.{Fault}
+use Rattle.pkg_record.specs.declared.fault.Fault.TheVariants.{Short, Misfit}
+use Rattle.pkg_record.specs.declared.fault.ReadError.{ReadError}
+use Rattle.pkg_record.specs.declared.fault.ReadError.TheVariants as errors
+use Rattle.pkg_record.specs.declared.fault.RecordError.{RecordError}
+use Rattle.pkg_record.specs.declared.fault.RecordError.TheVariants as records
+use Rattle.pkg_record.specs.Forms.{is_mark, front, back, is_origin, is_package_name, is_digest}
+use Rattle.pkg_record.specs.Said.{passing, word_behind, flavor_said, count_behind, option_said, depend_said, file_said}
+
+infixl 10 ◌>>=◌
+abbrev pub ◌>>=◌ : {A B : Type 0} → Result A Fault → (A → Result B Fault) → Result B Fault
+(Ok x) >>= f = f x
+(Err e) >>= f = Err e
+
+-- what a reader returned, seen by view, is what reading gives, unless memory ran out
+abbrev pub Fails : {Y : Type 0} → ReadError → Result Y Fault → Type 0
+Fails errors.Memory read = Unit {0}
+Fails (errors.Found fault) read = read ≡ Err fault
+
+abbrev pub Gives : {X Y : Type 0} → (X → Y) → Result X ReadError → Result Y Fault → Type 0
+Gives view (Ok x) read = read ≡ Ok (view x)
+Gives view (Err e) read = Fails e read
+
+-- the text of the first line and what follows the line
+abbrev pub line_at : List ℕ → Result (List ℕ × List ℕ) Fault
+line_at bytes = if nat_lt (position_or_len (is_mark 10) bytes) (length bytes) then Ok (front 10 bytes, back 10 bytes) else Err Short
+
+abbrev pub fitting : {X : Type 0} → ℕ → List ℕ → Option X → Result (X × List ℕ) Fault
+fitting left rest (Some x) = Ok (x, rest)
+fitting left rest None = Err (Misfit left)
+
+-- what the first line says and what follows the line; a line that says nothing does not fit
+unfoldable pub said_at : {X : Type 0} → (List ℕ → Option X) → List ℕ → Result (X × List ℕ) Fault
+said_at says bytes = line_at bytes >>= λ l. fitting (length bytes) l.1 (says l.0)
+
+-- the bytes of a file and the line feed behind them
+abbrev pub piece_at : ℕ → List ℕ → Result (List ℕ × List ℕ) Fault
+piece_at size bytes =
+    if nat_lt size (length bytes) then (if slice_index bytes size == 10 then Ok (take size bytes, drop (size + 1) bytes) else Err (Misfit (length bytes)))
+    else Err Short
+
+abbrev pub last_of : {X : Type 0} → List X → Option X
+last_of xs = slice_get xs (length xs - 1)
+
+-- by name, behind the one before it
+abbrev pub option_follows : Option Switch → Switch → Bool
+option_follows None option = true
+option_follows (Some last) option = is_lt (slice_cmp nat_cmp last.name option.name)
+
+abbrev pub next_option : List Switch → Switch → Option Switch
+next_option before option = if option_follows (last_of before) option then Some option else None
+
+unfoldable pub option_at : List Switch → List ℕ → Result (Switch × List ℕ) Fault
+option_at before bytes = said_at (λ text. option_and_then (next_option before) (option_said text)) bytes
+
+-- by kind, then node, behind the one before it
+abbrev pub depend_follows : Option Depend → Depend → Bool
+depend_follows None depend = true
+depend_follows (Some last) depend = comes_before last depend
+
+abbrev pub next_depend : List Depend → Depend → Option Depend
+next_depend before depend = if depend_follows (last_of before) depend then Some depend else None
+
+unfoldable pub depend_at : List Depend → List ℕ → Result (Depend × List ℕ) Fault
+depend_at before bytes = said_at (λ text. option_and_then (next_depend before) (depend_said text)) bytes
+
+-- by path, behind the one before it, and no path before it is one of its folders
+abbrev pub path_follows : Option FileItem → List ℕ → Bool
+path_follows None path = true
+path_follows (Some last) path = is_lt (slice_cmp nat_cmp last.path path)
+
+abbrev pub is_record_path : List ℕ → Bool
+is_record_path path = is_text path && is_path path && nat_le (length path) 1018
+
+abbrev pub is_next_path : List FileItem → List ℕ → Bool
+is_next_path before path = is_record_path path && path_follows (last_of before) path && list_all (λ folder. not (is_below folder path)) (paths_of before)
+
+abbrev pub next_file : List FileItem → ℕ × List ℕ → Option (ℕ × List ℕ)
+next_file before file = if is_next_path before file.1 then Some file else None
+
+unfoldable pub file_at : List FileItem → List ℕ → Result (FileItem × List ℕ) Fault
+file_at before bytes = do
+  head ← said_at (λ text. option_and_then (next_file before) (file_said text)) bytes
+  piece ← piece_at head.0.0 head.1
+  Ok (record { path = head.0.1; bytes = piece.0 }, piece.1)
+
+-- so many items, each read behind those before it
+unfoldable pub items_at : {X : Type 0} → (List X → List ℕ → Result (X × List ℕ) Fault) → ℕ → List X → List ℕ → Result (List X × List ℕ) Fault
+items_at item zero before bytes = Ok (before, bytes)
+items_at item (suc n) before bytes = do
+  x ← item before bytes
+  items_at item n (before ++ x.0 ∷ []) x.1
+
+-- a line with a count, and so many items
+unfoldable pub listed_at : {X : Type 0} → List ℕ → (List X → List ℕ → Result (X × List ℕ) Fault) → List ℕ → Result (List X × List ℕ) Fault
+listed_at heading item bytes = do
+  count ← said_at (count_behind heading) bytes
+  items_at item count.0 [] count.1
+
+-- the package that the lines before the digest spell
+unfoldable pub unsigned_at : List ℕ → Result (PackageView × List ℕ) Fault
+unsigned_at bytes = do
+  version ← said_at (passing (λ text. bytes_eq text (codes "poudriere-package 1"))) bytes
+  name ← said_at (word_behind (codes "name ") is_package_name) version.1
+  origin ← said_at (word_behind (codes "origin ") is_origin) name.1
+  flavor ← said_at flavor_said origin.1
+  options ← listed_at (codes "options ") option_at flavor.1
+  depends ← listed_at (codes "depends ") depend_at options.1
+  files ← listed_at (codes "files ") file_at depends.1
+  Ok (record { name = name.0; origin = origin.0; flavor = flavor.0; options = options.0; depends = depends.0; files = files.0 }, files.1)
+
+-- what a record says: a package, the digest that it states, and how many bytes stand before the line that states it
+pub record Signed : Type 0 where
+  pub read : PackageView
+  pub stated : List ℕ
+  pub size : ℕ
+
+abbrev pub signed : PackageView → List ℕ → ℕ → Signed
+signed read stated size = record { read = read; stated = stated; size = size }
+
+-- all of the bytes: nothing may stand behind the digest's line
+unfoldable pub signed_at : List ℕ → Result Signed Fault
+signed_at bytes = do
+  p ← unsigned_at bytes
+  digest ← said_at (word_behind (codes "sha256 ") is_digest) p.1
+  if length digest.1 == 0 then Ok (signed p.0 digest.0 (length bytes - length p.1)) else Err (Misfit (length digest.1))
+
+-- the digest of the first bytes
+abbrev pub digest_of : ℕ → List ℕ → List ℕ
+digest_of size bytes = encode_lower (sha256 (take size bytes))
+
+-- what a record gives
+unfoldable pub judged : List ℕ → Result Signed Fault → Result PackageView RecordError
+judged bytes (Err Short) = Err records.Short
+judged bytes (Err (Misfit left)) = Err (records.BadField (length bytes - left))
+judged bytes (Ok s) = if bytes_eq s.stated (digest_of s.size bytes) then Ok s.read else Err (records.BadDigest s.stated (digest_of s.size bytes))
+
+abbrev pub record_of : List ℕ → Result PackageView RecordError
+record_of bytes = judged bytes (signed_at bytes)

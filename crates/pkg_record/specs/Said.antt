@@ -1,0 +1,88 @@
+-- What the text of each line of a record says, where it fits (docs/FORMATS.md).
+use Rattle.std.specs.Prelude.{ℕ, Bool, true, false, not, ◌^◌, ◌&&◌, ◌||◌, ◌==◌, nat_eq, nat_lt, List, length, drop, codes, slice_index, Option, Some, None, bytes_eq, if◌then◌else◌}
+use Rattle.std.specs.Option.{option_map, option_and_then}
+use Rattle.std.specs.List.{list_all, starts_with}
+use Rattle.std.specs.Char.{is_ascii_digit}
+use Rattle.std.specs.Str.Parse.{digits_value}
+use Rattle.bulk_base.specs.Names.{is_flavor, is_option_name}
+use Rattle.bulk_base.specs.declared.file.Switch.{Switch}
+use Rattle.bulk_model.specs.declared.depend.Depend.{Depend}
+use Rattle.bulk_model.specs.declared.depend.DepKind.{DepKind}
+use Rattle.bulk_model.specs.declared.depend.DepKind.TheVariants.{Pkg, Fetch, Extract, Patch, Build, Lib, Run}
+use Rattle.pkg_record.specs.Forms.{front, back, is_node, is_package_name}
+
+-- what follows a heading
+abbrev pub behind : List ℕ → List ℕ → Option (List ℕ)
+behind heading text = if starts_with nat_eq text heading then Some (drop (length heading) text) else None
+
+abbrev pub passing : (List ℕ → Bool) → List ℕ → Option (List ℕ)
+passing test text = if test text then Some text else None
+
+-- a heading and a word in form
+abbrev pub word_behind : List ℕ → (List ℕ → Bool) → List ℕ → Option (List ℕ)
+word_behind heading test text = option_and_then (passing test) (behind heading text)
+
+-- `-` where there is none
+abbrev pub flavor_of : List ℕ → Option (Option (List ℕ))
+flavor_of word = if bytes_eq word (codes "-") then Some None else option_map (λ flavor. Some flavor) (passing is_flavor word)
+
+abbrev pub flavor_said : List ℕ → Option (Option (List ℕ))
+flavor_said text = option_and_then flavor_of (behind (codes "flavor ") text)
+
+-- decimal digits without a leading zero
+abbrev pub is_numeral : List ℕ → Bool
+is_numeral digits = list_all is_ascii_digit digits && nat_lt 0 (length digits) && ((length digits == 1) || not (slice_index digits 0 == 48))
+
+-- their value, below 2 ^ 64
+abbrev pub count_of : List ℕ → Option ℕ
+count_of digits = if is_numeral digits && nat_lt (digits_value 10 digits) (2 ^ 64) then Some (digits_value 10 digits) else None
+
+abbrev pub count_behind : List ℕ → List ℕ → Option ℕ
+count_behind heading text = option_and_then count_of (behind heading text)
+
+abbrev pub switch_of : List ℕ → Option Bool
+switch_of word = if bytes_eq word (codes "on") then Some true else if bytes_eq word (codes "off") then Some false else None
+
+abbrev pub switch : List ℕ → Bool → Switch
+switch name on = record { name = name; on = on }
+
+abbrev pub named_switch : List ℕ → Bool → Option Switch
+named_switch name on = if is_option_name name then Some (switch name on) else None
+
+-- an option and, behind a space, whether it is on
+abbrev pub switch_in : List ℕ → Option Switch
+switch_in words = option_and_then (named_switch (front 32 words)) (switch_of (back 32 words))
+
+abbrev pub option_said : List ℕ → Option Switch
+option_said text = option_and_then switch_in (behind (codes "option ") text)
+
+unfoldable pub kind_of : List ℕ → Option DepKind
+kind_of word =
+    if bytes_eq word (codes "pkg") then Some Pkg
+    else if bytes_eq word (codes "fetch") then Some Fetch
+    else if bytes_eq word (codes "extract") then Some Extract
+    else if bytes_eq word (codes "patch") then Some Patch
+    else if bytes_eq word (codes "build") then Some Build
+    else if bytes_eq word (codes "lib") then Some Lib
+    else if bytes_eq word (codes "run") then Some Run
+    else None
+
+abbrev pub depend : DepKind → List ℕ → List ℕ → Depend
+depend kind node name = record { kind = kind; node = node; name = name }
+
+abbrev pub named_depend : List ℕ → List ℕ → DepKind → Option Depend
+named_depend node name kind = if is_node node && is_package_name name then Some (depend kind node name) else None
+
+-- a kind, a node and a package's name, with spaces between
+abbrev pub depend_in : List ℕ → Option Depend
+depend_in words = option_and_then (named_depend (front 32 (back 32 words)) (back 32 (back 32 words))) (kind_of (front 32 words))
+
+abbrev pub depend_said : List ℕ → Option Depend
+depend_said text = option_and_then depend_in (behind (codes "depend ") text)
+
+-- a length and, behind a space, a path
+abbrev pub file_in : List ℕ → Option (ℕ × List ℕ)
+file_in words = option_map (λ size. (size, back 32 words)) (count_of (front 32 words))
+
+abbrev pub file_said : List ℕ → Option (ℕ × List ℕ)
+file_said text = option_and_then file_in (behind (codes "file ") text)

@@ -1,0 +1,107 @@
+// A package out of its record.
+ghost use Rattle.std.specs.Prelude.{◌≡◌, ◌≢◌, ◌≤◌, List, ℕ, [], ◌++◌, length, IfOk, IfErr, MatchResult};
+ghost use Rattle.sha2.specs.Sha256.{sha256};
+ghost use Rattle.hex.specs.Hex.{encode_lower};
+ghost use Rattle.bulk_model.specs.Spelling.{spelling};
+ghost use Rattle.pkg_record.specs.Laws.{HasRecord, IsForDigest};
+ghost use Rattle.bulk_model.specs.Views.{PackageView};
+ghost use Rattle.pkg_record.specs.Reading.{Gives, unsigned_at, signed_at, signed, record_of};
+
+use crate::fault::{Fault, ReadError, RecordError, misfit};
+use crate::line_reader::{digest_line, flavor_line, name_line, origin_line, version_line};
+use crate::list_reader::{depends, files, options};
+use bulk_base::{NoMemory, Text};
+use bulk_model::Package;
+use sha2::{Digest, Sha256};
+use std::alloc::Global;
+
+/// The package that the lines before the digest spell.
+#[tactic(auto, unfolding(crate::specs::Reading::unsigned_at))]
+fn unsigned(alloc: Global, bytes: &[u8]) -> Result<(Package, &[u8]), ReadError>
+    ensures { Gives (λ x. (x.0, x.1.now)) result (unsigned_at bytes.now) }
+{
+    let rest = version_line(bytes)?;
+    let (name, rest) = name_line(alloc, rest)?;
+    let (origin, rest) = origin_line(alloc, rest)?;
+    let (flavor, rest) = flavor_line(alloc, rest)?;
+    let (options, rest) = options(alloc, rest)?;
+    let (depends, rest) = depends(alloc, rest)?;
+    let (files, rest) = files(alloc, rest)?;
+    let built = Package {
+        name,
+        origin,
+        flavor,
+        options,
+        depends,
+        files,
+    };
+    Ok((built, rest))
+}
+
+/// The package, the digest that the record states, and how many bytes stand before the line that states it.
+#[tactic(auto, unfolding(crate::specs::Reading::signed_at))]
+fn whole(alloc: Global, bytes: &[u8]) -> Result<(Package, Text, usize), ReadError>
+    ensures read { Gives (λ x. signed x.0 x.1 x.2) result (signed_at bytes.now) }
+    ensures within { IfOk result (λ x. x.2 ≤ length bytes.now) }
+{
+    let (built, last) = unsigned(alloc, bytes)?;
+    let (stated, rest) = digest_line(alloc, last)?;
+    if !rest.is_empty() {
+        return Err(misfit(rest));
+    }
+    Ok((built, stated, bytes.len().saturating_sub(last.len())))
+}
+
+/// SHA-256 in 64 lower-case digits.
+fn digest_text(alloc: Global, bytes: &[u8]) -> Result<Text, NoMemory>
+    ensures { IfOk result (λ t. t ≡ encode_lower (sha256 bytes.now)) }
+{
+    let digits = hex::encode(alloc, Sha256::digest(bytes))?;
+    Text::of(alloc, digits.as_str().as_bytes())
+}
+
+#[tactic(auto, unfolding(crate::specs::Reading::judged))]
+fn judged(alloc: Global, bytes: &[u8]) -> Result<Package, RecordError>
+    ensures ok { IfOk result (λ p. record_of bytes.now ≡ Ok p) }
+    ensures err { IfErr result (λ e. e ≢ RecordError.NoMemory → record_of bytes.now ≡ Err e) }
+{
+    match whole(alloc, bytes) {
+        Ok((built, stated, size)) => {
+            let found = digest_text(alloc, &bytes[..size])?;
+            if stated == found {
+                Ok(built)
+            } else {
+                Err(RecordError::BadDigest { stated, found })
+            }
+        }
+        Err(ReadError::Found(Fault::Short)) => Err(RecordError::Short),
+        Err(ReadError::Found(Fault::Misfit(left))) => Err(RecordError::BadField {
+            place: bytes.len().saturating_sub(left) as u64,
+        }),
+        Err(ReadError::Memory) => Err(RecordError::NoMemory),
+    }
+}
+
+/// The package of a record, version 1 (docs/FORMATS.md, "The package record, version 1"; SHA-256 by FIPS 180-4).
+///
+/// Short, BadField and BadDigest as `RecordError` says, the first fault from left to right; NoMemory for want of memory
+/// alone. Each byte is looked at a fixed number of times; a path's folders are looked up among the files before it, in
+/// O(log n) comparisons each. Besides the package, two digests are held.
+pub fn read(alloc: Global, bytes: &[u8]) -> Result<Package, RecordError>
+    // What is read is a package whose record the bytes are.
+    ensures spelled { IfOk result (λ p. bytes.now ≡ spelling p) }
+    // What a package's record is, is read as that package, unless memory runs out.
+    ensures only { (p : PackageView) → HasRecord p → bytes.now ≡ spelling p → MatchResult result (λ x. x ≡ p) (λ e. e ≡ RecordError.NoMemory) }
+    // What is refused for its digest is a package's record but for that.
+    ensures digest { IfErr result (λ e. IsForDigest bytes.now e) }
+    // Which answer it is, from left to right.
+    ensures ok { IfOk result (λ p. record_of bytes.now ≡ Ok p) }
+    ensures err { IfErr result (λ e. e ≢ RecordError.NoMemory → record_of bytes.now ≡ Err e) }
+{
+    judged(alloc, bytes)
+}
+
+/// No record begins another, so that a record ends by itself and one package has one record.
+pub fn no_record_begins_another()
+    ensures { (p q : PackageView) (more : List ℕ) → HasRecord p → HasRecord q → spelling q ≡ spelling p ++ more → (p ≡ q) × (more ≡ []) }
+{}
