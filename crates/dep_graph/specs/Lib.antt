@@ -1,5 +1,6 @@
 pub mod Graphs
 pub mod Reached
+pub mod Found
 pub mod Order
 pub mod Turned
 pub mod Chains

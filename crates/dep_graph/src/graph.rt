@@ -1,9 +1,13 @@
 // A graph of dependencies.
-ghost use Rattle.std.specs.Prelude.{◌≡◌};
+ghost use Rattle.std.specs.Prelude.{◌≡◌, ◌<◌, length, IfOk};
+ghost use Rattle.std.specs.List.{All};
 ghost use Rattle.dep_graph.specs.Graphs.{IsGraph};
+ghost use Rattle.dep_graph.specs.Reached.{reach, IsReach};
 
+use crate::found::Found;
+use crate::spread::{Follow, spread};
 use bulk_base::NoMemory;
-use bulk_model::EdgeLists;
+use bulk_model::{EdgeLists, Numbers};
 use std::alloc::Global;
 use std::marker::Model;
 
@@ -39,8 +43,23 @@ impl Graph {
 
     /// The edge lists.
     pub fn edges(&self) -> &EdgeLists
-        ensures { result.now ≡ self.now }
+        ensures value { result.now ≡ self.now }
+        ensures form { IsGraph result.now }
     {
         &self.edges
+    }
+
+    /// The nodes of `from` and all that they lead to, ascending, each once. NoMemory for want of memory alone.
+    ///
+    /// Each node and each edge is looked at once.
+    pub fn reach(&self, alloc: Global, from: &[u32]) -> Result<Numbers, NoMemory>
+        requires { All (λ n. n < length self.now) from.now }
+        ensures nodes { IfOk result (λ reached. reached ≡ reach self.now from.now) }
+        ensures least_closed { IfOk result (IsReach self.now from.now) }
+    {
+        let graph = self.edges.as_slice();
+        let mut found = Found::of(alloc, graph.len(), from)?;
+        spread(&mut found, graph, Follow::All)?;
+        found.ascending(alloc)
     }
 }

@@ -1,7 +1,10 @@
 //! The graph of dependencies: what a node reaches, an order, chains of dependents, and what is installed for a build.
 #![tactic(auto)]
 
+mod found;
 mod graph;
-mod marks;
+mod installed;
+mod spread;
 
 pub use graph::Graph;
+pub use installed::installs;
