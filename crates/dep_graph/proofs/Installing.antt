@@ -3,9 +3,9 @@ use Rattle.std.proofs.Common.{◌≡◌, ℕ, zero, suc, ◌+◌, ◌<◌, ◌�
 use Rattle.std.specs.Prelude.{◌==◌, ◌||◌, ◌&&◌, filter, map, nat_lt}
 use Rattle.std.specs.List.{list_any, list_all, range_with_len, All}
 use Rattle.std.proofs.lemmas.Bool.{eq-eqb, eqb-true, ltb-true}
-use Rattle.std.proofs.lemmas.List.{get_or_default}
+use Rattle.std.proofs.lemmas.List.{get_or_default, get_or-map, length-map}
 use Rattle.std.proofs.lemmas.List.Sums.{AllPass-from_list_all}
-use Rattle.std.proofs.lemmas.List.Elements.{All-from_get_or, All-get_or, get_or-map}
+use Rattle.std.proofs.lemmas.List.Elements.{All-from_get_or, All-get_or}
 use Rattle.bulk_model.specs.declared.plan.Edge.{Edge}
 use Rattle.bulk_model.specs.PlanView.{PlanView, nodes, depends}
 use Rattle.bulk_model.specs.PlanFacts.{IsPlan}
@@ -13,7 +13,7 @@ use Rattle.bulk_model.specs.Installs.{later_depends, is_installed, installs}
 use Rattle.dep_graph.specs.Graphs.{has, edges_at, targets, depends_at, IsWithin}
 use Rattle.dep_graph.specs.Reached.{is_reached}
 use Rattle.dep_graph.specs.Found.{FoundView, Spreads, with_nodes, found_with}
-use Rattle.dep_graph.proofs.Members.{same_bool, has-range, all_has, filter_agree_below}
+use Rattle.dep_graph.proofs.Members.{same_bool, has-range, has_from_place, all_has, filter_agree_below}
 use Rattle.dep_graph.proofs.Extending.{extended}
 
 turned : (a b : ℕ) → (a == b) ≡ (b == a)
@@ -59,4 +59,14 @@ target_at plan p n d l h =
     ltb-true d (length plan.jobs) (all_has (λ to. nat_lt to (length plan.jobs) ≡ true) (depends plan n) d (AllPass-from_list_all (λ to. nat_lt to (length plan.jobs)) (depends plan n) all) h)
 
 pub plan_within : (plan : PlanView) → IsPlan plan → IsWithin (length plan.edges) plan.edges
-plan_within plan p n d l i e h = ?
+plan_within plan p n d l i e h =
+    let same : get_or plan.edges n d ≡ get_or plan.edges n [] = get_or_default plan.edges n d [] l in
+    let within : i < length (get_or plan.edges n []) = subst (λ edges. i < length edges) same h in
+    let node : n < length plan.jobs = (let size : length plan.edges ≡ length plan.jobs = p.edges in omega arith) in
+    let member : has (depends plan n) (get_or (get_or plan.edges n []) i e).to ≡ true =
+        has_from_place (depends plan n) (get_or (get_or plan.edges n []) i e).to i
+        (let size : length (depends plan n) ≡ length (get_or plan.edges n []) = length-map (get_or plan.edges n []) (λ (edge : Edge). edge.to) in omega arith)
+        (get_or-map (λ (edge : Edge). edge.to) (get_or plan.edges n []) i e 0 within) in
+    subst (λ edges. (get_or edges i e).to < length plan.edges) (sym same)
+    (let below : (get_or (get_or plan.edges n []) i e).to < length plan.jobs = target_at plan p n (get_or (get_or plan.edges n []) i e).to node member in
+     let size : length plan.edges ≡ length plan.jobs = p.edges in omega arith)

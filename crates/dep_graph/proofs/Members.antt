@@ -1,6 +1,5 @@
 -- What a list of numbers has, and the numbers below a bound.
-use Rattle.std.proofs.Common.{◌≡◌, ℕ, zero, suc, ◌+◌, ◌<◌, ◌≤◌, Bool, true, false, List, [], ◌∷◌, ◌++◌, length, get_or, take, drop, refl, ap, sym, subst, ◌∙◌, arith, cond, nat_eq, Some, None, inl, inr, ◌⊎◌, Result, Ok, Err}
-use Rattle.std.specs.Result.{IfOk}
+use Rattle.std.proofs.Common.{◌≡◌, ℕ, zero, suc, ◌+◌, ◌<◌, ◌≤◌, Bool, true, false, List, [], ◌∷◌, ◌++◌, length, get_or, take, drop, refl, ap, sym, subst, ◌∙◌, arith, cond, nat_eq, Some, None, inl, inr, ◌⊎◌}
 use Rattle.std.specs.Prelude.{◌==◌, ◌||◌, ◌&&◌, filter, map}
 use Rattle.std.specs.List.{list_any, range_with_len, All, IsDistinct, Any, Contains}
 use Rattle.std.proofs.lemmas.Bool.{eq-eqb, eqb-true, ne_eqb, cases_Bool, cases_eq, or_right, or_left}
@@ -126,8 +125,3 @@ not_got_case xs i h (inr none) = none.0
 
 pub not_got : (xs : List ℕ) (i : ℕ) → None ≡ slice_get xs i → length xs ≤ i
 not_got xs i h = not_got_case xs i h (slice_get_cases xs i).1
-
--- a fact on an answer gives another
-pub IfOk-weaker : {T E : Type 0} (P Q : T → Type 0) (r : Result T E) → IfOk r P → ((x : T) → P x → Q x) → IfOk r Q
-IfOk-weaker P Q (Ok x) h f = f x h
-IfOk-weaker P Q (Err e) h f = tt
