@@ -16,12 +16,12 @@ use Rattle.dep_graph.specs.Found.{FoundView, Spreads, with_nodes, found_with}
 use Rattle.dep_graph.proofs.Members.{same_bool, has-range, has_from_place, all_has, filter_agree_below}
 use Rattle.dep_graph.proofs.Extending.{extended}
 
-turned : (a b : ℕ) → (a == b) ≡ (b == a)
-turned a b = same_bool (a == b) (b == a) (λ h. eq-eqb b a (sym (eqb-true a b h))) (λ h. eq-eqb a b (sym (eqb-true b a h)))
+pub eq_turned : (a b : ℕ) → (a == b) ≡ (b == a)
+eq_turned a b = same_bool (a == b) (b == a) (λ h. eq-eqb b a (sym (eqb-true a b h))) (λ h. eq-eqb a b (sym (eqb-true b a h)))
 
 pub any_is_has : (xs : List ℕ) (d : ℕ) → list_any (λ to. to == d) xs ≡ has xs d
 any_is_has [] d = refl
-any_is_has (x ∷ xs) d = ap (λ b. b || list_any (λ to. to == d) xs) (turned x d) ∙ ap (λ b. (d == x) || b) (any_is_has xs d)
+any_is_has (x ∷ xs) d = ap (λ b. b || list_any (λ to. to == d) xs) (eq_turned x d) ∙ ap (λ b. (d == x) || b) (any_is_has xs d)
 
 pub any_agree : (p q : ℕ → Bool) (xs : List ℕ) → ((x : ℕ) → p x ≡ q x) → list_any p xs ≡ list_any q xs
 any_agree p q [] same = refl

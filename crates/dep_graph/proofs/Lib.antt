@@ -6,3 +6,6 @@ pub mod Rounds
 pub mod Spreading
 pub mod Reaching
 pub mod Installing
+pub mod Turning
+pub mod Waiting
+pub mod Turns

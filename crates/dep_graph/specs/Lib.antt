@@ -3,4 +3,5 @@ pub mod Reached
 pub mod Found
 pub mod Order
 pub mod Turned
+pub mod Waiting
 pub mod Chains

@@ -5,6 +5,7 @@ mod found;
 mod graph;
 mod installed;
 mod spread;
+mod turned;
 
 pub use graph::Graph;
 pub use installed::installs;
