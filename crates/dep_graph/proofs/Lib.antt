@@ -9,3 +9,4 @@ pub mod Installing
 pub mod Turning
 pub mod Waiting
 pub mod Turns
+pub mod Ordered

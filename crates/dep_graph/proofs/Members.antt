@@ -100,6 +100,11 @@ filter_agree_below p q count f = filter_agree p q (range_with_len 0 count) (all_
 pub at_most : (xs : List ℕ) (count : ℕ) → IsDistinct nat_eq xs → All (λ n. n < count) xs → length xs ≤ count
 at_most xs count once below = length-le_from_distinct_below xs count once (λ n h. all_has (λ n. n < count) xs n below h)
 
+pub filter_more : (p : ℕ → Bool) (n : ℕ) (b : Bool) (so_far now : List ℕ) → so_far ≡ filter p (range_with_len 0 n) → p n ≡ b → now ≡ so_far ++ cond b (n ∷ []) []
+    → now ≡ filter p (range_with_len 0 (n + 1))
+filter_more p n b so_far now e is step =
+    step ∙ ap (λ l. l ++ cond b (n ∷ []) []) e ∙ ap (λ x. filter p (range_with_len 0 n) ++ cond x (n ∷ []) []) (sym is) ∙ sym (filter_range_more p n)
+
 -- the marked places, one place further
 pub marked_more : (p : ℕ → Bool) (marks : List Bool) (n : ℕ) (b : Bool) (so_far now : List ℕ) → n < length marks → b ≡ get_or marks n b → get_or marks n false ≡ p n
     → so_far ≡ filter p (range_with_len 0 n) → now ≡ so_far ++ cond b (n ∷ []) [] → now ≡ filter p (range_with_len 0 (n + 1))

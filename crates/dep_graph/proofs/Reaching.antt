@@ -26,7 +26,7 @@ target_case count graph n d within h (inr past) =
 pub target_below : (count : ℕ) (graph : List (List Edge)) (n d : ℕ) → IsWithin count graph → has (depends_at graph n) d ≡ true → d < count
 target_below count graph n d within h = target_case count graph n d within h (cases_lt n (length graph))
 
-increasing_range : (count : ℕ) → IsStrictlyIncreasing (range_with_len 0 count)
+pub increasing_range : (count : ℕ) → IsStrictlyIncreasing (range_with_len 0 count)
 increasing_range count k l =
     let size : length (range_with_len 0 count) ≡ count = length-range_with_len 0 count in
     let below : k + 1 < count = omega arith in

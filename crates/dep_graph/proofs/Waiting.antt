@@ -222,3 +222,33 @@ module _ (graph : List (List Edge)) where
         behind = λ place l. behind_case at m place rest left order b last w l (cases_lt place (length order))
       }
     }
+
+  close_case : (at m : ℕ) (rest left order : List ℕ) → m < length graph → IsWaiting graph at (m ∷ rest) left order → (b : Bool) → (get_or left m 0 == 1) ≡ b
+      → IsWaiting graph at rest (set left m (get_or left m 0 - 1)) (cond b (order ++ m ∷ []) order)
+  close_case at m rest left order l w true e = wait_over at m rest left order l (eqb-true (get_or left m 0) 1 e) w
+  close_case at m rest left order l w false e = wait_on at m rest left order l (eqb-false (get_or left m 0) 1 e) w
+
+  pub waits_less : (at m : ℕ) (rest left order less longer : List ℕ) → m < length left → less ≡ set left m (get_or left m 0 - 1) → longer ≡ cond (get_or left m 0 == 1) (order ++ m ∷ []) order
+      → IsWaiting graph at (m ∷ rest) left order → IsWaiting graph at rest less longer
+  waits_less at m rest left order less longer l e o w =
+      subst (λ x. IsWaiting graph at rest x longer) (sym e) (subst (λ x. IsWaiting graph at rest (set left m (get_or left m 0 - 1)) x) (sym o)
+      (close_case at m rest left order (let size : length left ≡ length graph = w.size in omega arith) w (get_or left m 0 == 1) refl))
+
+fits_case : (rest left : List ℕ) (m n : ℕ) → m < length left → times (m ∷ rest) n ≤ get_or left n 0 → (n ≡ m) ⊎ (n ≡ m → ⊥) → times rest n ≤ get_or (set left m (get_or left m 0 - 1)) n 0
+fits_case rest left m n l h (inl same) =
+    let one : times (m ∷ rest) n ≡ 1 + times rest n = times-cons rest m n ∙ ap (λ b. one_if b + times rest n) (eq-eqb n m same) in
+    let now : get_or (set left m (get_or left m 0 - 1)) n 0 ≡ get_or left n 0 - 1 =
+        ap (λ x. get_or (set left m (get_or left m 0 - 1)) x 0) same ∙ get_or-set_same left m (get_or left m 0 - 1) 0 l ∙ ap (λ x. get_or left x 0 - 1) (sym same) in
+    omega arith
+fits_case rest left m n l h (inr apart) =
+    let none : times (m ∷ rest) n ≡ 0 + times rest n = times-cons rest m n ∙ ap (λ b. one_if b + times rest n) (ne_eqb n m apart) in
+    let now : get_or (set left m (get_or left m 0 - 1)) n 0 ≡ get_or left n 0 = get_or-set_other left m n (get_or left m 0 - 1) 0 apart in
+    omega arith
+
+pub fits_less : (rest left less : List ℕ) (m n : ℕ) → m < length left → less ≡ set left m (get_or left m 0 - 1) → times (m ∷ rest) n ≤ get_or left n 0 → times rest n ≤ get_or less n 0
+fits_less rest left less m n l e h = subst (λ x. times rest n ≤ get_or x n 0) (sym e) (fits_case rest left m n l h (cases_eq n m))
+
+pub waits_some : (rest left : List ℕ) (m : ℕ) → times (m ∷ rest) m ≤ get_or left m 0 → 0 < get_or left m 0
+waits_some rest left m h =
+    let one : times (m ∷ rest) m ≡ 1 + times rest m = times-cons rest m m ∙ ap (λ b. one_if b + times rest m) (eq-eqb m m refl) in
+    omega arith

@@ -1,5 +1,5 @@
 -- Dependency orders, and what no loop holds up.
-use Rattle.std.specs.Prelude.{ℕ, zero, suc, Bool, false, ◌<◌, List, length, take, slice_index, nat_eq, IsTrue}
+use Rattle.std.specs.Prelude.{◌≡◌, ℕ, zero, suc, Bool, false, ◌<◌, List, length, take, slice_index, nat_eq, IsTrue}
 use Rattle.std.specs.List.{list_all, All, IsDistinct}
 use Rattle.bulk_model.specs.declared.plan.Edge.{Edge}
 use Rattle.dep_graph.specs.Graphs.{has, depends_at, nodes_of}
@@ -27,3 +27,8 @@ is_free graph n = is_away graph (length graph) n
 -- there is no loop
 abbrev pub is_loopless : List (List Edge) → Bool
 is_loopless graph = list_all (is_free graph) (nodes_of graph)
+
+-- all the nodes that no loop holds up, and no others
+pub record IsLooplessPart (graph : List (List Edge)) (list : List ℕ) : Type 0 where
+  pub in_order : IsInOrder graph list
+  pub free : (n : ℕ) → n < length graph → has list n ≡ is_free graph n

@@ -1,12 +1,16 @@
 // A graph of dependencies.
-ghost use Rattle.std.specs.Prelude.{◌≡◌, ◌<◌, length, IfOk};
+ghost use Rattle.std.specs.Prelude.{◌≡◌, ◌<◌, length, is_some, IfOk, IfSome};
 ghost use Rattle.std.specs.List.{All};
 ghost use Rattle.dep_graph.specs.Graphs.{IsGraph};
 ghost use Rattle.dep_graph.specs.Reached.{reach, IsReach};
+ghost use Rattle.dep_graph.specs.Turned.{dependents};
+ghost use Rattle.dep_graph.specs.Order.{IsLooplessPart, IsDependencyOrder, is_loopless};
 
 use crate::found::Found;
+use crate::order::loopless_part;
 use crate::spread::{Follow, spread};
-use bulk_base::NoMemory;
+use crate::turned::turned;
+use bulk_base::{NoMemory, Sequence};
 use bulk_model::{EdgeLists, Numbers};
 use std::alloc::Global;
 use std::marker::Model;
@@ -61,5 +65,44 @@ impl Graph {
         let mut found = Found::of(alloc, graph.len(), from)?;
         spread(&mut found, graph, Follow::All)?;
         found.ascending(alloc)
+    }
+
+    /// The graph of dependents: each edge turned round, its kind kept, the edges of a node by target, then kind.
+    /// NoMemory for want of memory alone.
+    ///
+    /// Each node and each edge is looked at once for each of the seven kinds.
+    pub fn dependents(&self, alloc: Global) -> Result<Graph, NoMemory>
+        ensures { IfOk result (λ turned. turned ≡ dependents self.now) }
+    {
+        Ok(Graph {
+            edges: Sequence::from_vec(turned(alloc, self.edges.as_slice())?),
+        })
+    }
+
+    /// The nodes that no loop holds up, each once, behind all its dependencies. NoMemory for want of memory alone.
+    ///
+    /// Each node and each edge is looked at a fixed number of times.
+    pub fn loopless_part(&self, alloc: Global) -> Result<Numbers, NoMemory>
+        ensures { IfOk result (IsLooplessPart self.now) }
+    {
+        let dependents = turned(alloc, self.edges.as_slice())?;
+        let part = loopless_part(alloc, self.edges.as_slice(), dependents.as_slice())?;
+        Ok(Sequence::from_vec(part))
+    }
+
+    /// A dependency order: all nodes, each once, behind all its dependencies. None exactly where there is a loop. NoMemory
+    /// for want of memory alone.
+    ///
+    /// Each node and each edge is looked at a fixed number of times.
+    pub fn order(&self, alloc: Global) -> Result<Option<Numbers>, NoMemory>
+        ensures order { IfOk result (λ order. IfSome order (IsDependencyOrder self.now)) }
+        ensures loop_free { IfOk result (λ order. is_some order ≡ is_loopless self.now) }
+    {
+        let part = self.loopless_part(alloc)?;
+        if part.len() == self.edges.len() {
+            Ok(Some(part))
+        } else {
+            Ok(None)
+        }
     }
 }

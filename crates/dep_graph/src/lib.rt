@@ -4,6 +4,7 @@
 mod found;
 mod graph;
 mod installed;
+mod order;
 mod spread;
 mod turned;
 

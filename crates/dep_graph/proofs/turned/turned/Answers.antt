@@ -4,7 +4,6 @@ use Rattle.bulk_model.specs.declared.plan.Edge.{Edge}
 use Rattle.dep_graph.specs.Graphs.{IsGraph, edges_at}
 use Rattle.dep_graph.specs.Turned.{turned_from, dependents, Grew}
 use Rattle.dep_graph.proofs.Turning.{none_turned, node_turned, all_turned, turned_form}
-use Rattle.dep_graph.proofs.Turns.{times_dependents}
 use Rattle.dep_graph.proofs.turned.turned.Goals as goal
 
 pub loop-n-init : goal.loop-n-init
