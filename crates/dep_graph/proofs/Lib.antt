@@ -10,3 +10,4 @@ pub mod Turning
 pub mod Waiting
 pub mod Turns
 pub mod Ordered
+pub mod LongChains

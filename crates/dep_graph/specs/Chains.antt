@@ -1,5 +1,5 @@
 -- Chains of dependents.
-use Rattle.std.specs.Prelude.{◌≡◌, ◌≤◌, ℕ, Bool, true, ◌&&◌, List, [], ◌∷◌, length, IsTrue}
+use Rattle.std.specs.Prelude.{◌≡◌, ◌≤◌, ◌<◌, ℕ, max, Bool, true, ◌&&◌, List, [], ◌∷◌, length, slice_index, IsTrue, if◌then◌else◌}
 use Rattle.bulk_model.specs.declared.plan.Edge.{Edge}
 use Rattle.dep_graph.specs.Graphs.{has, depends_at}
 
@@ -15,3 +15,8 @@ HasChain graph n edges = (above : List ℕ) × IsTrue (is_chain_above graph n ab
 pub record IsLongest (graph : List (List Edge)) (n edges : ℕ) : Type 0 where
   pub found : HasChain graph n edges
   pub most : (above : List ℕ) → IsTrue (is_chain_above graph n above) → length above ≤ edges
+
+-- the numbers at these places were raised to a value, where they were less
+pub record Raised (places : List ℕ) (value : ℕ) (before after : List ℕ) : Type 0 where
+  pub size : length after ≡ length before
+  pub numbers : (d : ℕ) → d < length before → slice_index after d ≡ (if has places d then max (slice_index before d) value else slice_index before d)

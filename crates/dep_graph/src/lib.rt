@@ -1,6 +1,7 @@
 //! The graph of dependencies: what a node reaches, an order, chains of dependents, and what is installed for a build.
 #![tactic(auto)]
 
+mod chains;
 mod found;
 mod graph;
 mod installed;
