@@ -26,7 +26,7 @@ zero_more : (n : ℕ) → 0 + n ≡ n
 zero_more n = omega arith
 
 -- what a longer order has
-has_pushed : (order : List ℕ) (n m : ℕ) (same : Bool) → (n == m) ≡ same → has (order ++ m ∷ []) n ≡ (has order n || (same || false))
+pub has_pushed : (order : List ℕ) (n m : ℕ) (same : Bool) → (n == m) ≡ same → has (order ++ m ∷ []) n ≡ (has order n || (same || false))
 has_pushed order n m same e = has-append order (m ∷ []) n ∙ ap (λ b. has order n || (b || false)) e
 
 or_true : (b : Bool) → (b || true) ≡ true

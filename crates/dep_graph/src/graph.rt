@@ -1,11 +1,13 @@
 // A graph of dependencies.
-ghost use Rattle.std.specs.Prelude.{◌≡◌, ◌<◌, length, is_some, IfOk, IfSome};
+ghost use Rattle.std.specs.Prelude.{◌≡◌, ◌<◌, ℕ, length, slice_index, is_some, IfOk, IfSome, IsTrue};
 ghost use Rattle.std.specs.List.{All};
 ghost use Rattle.dep_graph.specs.Graphs.{IsGraph};
 ghost use Rattle.dep_graph.specs.Reached.{reach, IsReach};
 ghost use Rattle.dep_graph.specs.Turned.{dependents};
 ghost use Rattle.dep_graph.specs.Order.{IsLooplessPart, IsDependencyOrder, is_loopless};
+ghost use Rattle.dep_graph.specs.Chains.{IsLongest};
 
+use crate::chains::longest_chains;
 use crate::found::Found;
 use crate::order::loopless_part;
 use crate::spread::{Follow, spread};
@@ -104,5 +106,18 @@ impl Graph {
         } else {
             Ok(None)
         }
+    }
+
+    /// For each node, the number of edges of the longest chain of dependents above it. NoMemory for want of memory alone.
+    ///
+    /// Each node and each edge is looked at a fixed number of times.
+    pub fn chains(&self, alloc: Global) -> Result<Numbers, NoMemory>
+        requires { IsTrue (is_loopless self.now) }
+        ensures size { IfOk result (λ chains. length chains ≡ length self.now) }
+        ensures longest { IfOk result (λ chains. (n : ℕ) → n < length self.now → IsLongest self.now n (slice_index chains n)) }
+    {
+        let order = self.loopless_part(alloc)?;
+        let chains = longest_chains(alloc, self.edges.as_slice(), order.as_slice())?;
+        Ok(Sequence::from_vec(chains))
     }
 }

@@ -7,6 +7,8 @@ mod graph;
 mod installed;
 mod order;
 mod spread;
+#[cfg(test)]
+mod tests;
 mod turned;
 
 pub use graph::Graph;
