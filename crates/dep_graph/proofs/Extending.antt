@@ -48,7 +48,7 @@ fresh_added nodes n i false h l = get_or_push nodes n 0 i (omega (arith, length_
 
 later_case : (nodes more middle after : List ℕ) (x i : ℕ) → ((m : ℕ) → length nodes ≤ m → m < length middle → get_or middle m 0 ≡ x) → Extends middle more after
     → length nodes ≤ i → i < length after → (i < length middle) ⊎ (length middle ≤ i) → has (x ∷ more) (get_or after i 0) ≡ true
-later_case nodes more middle after x i only e h l (inl early) = 
+later_case nodes more middle after x i only e h l (inl early) =
     let is : get_or after i 0 ≡ x = e.same i early ∙ only i h early in
     ap (λ b. b || has more (get_or after i 0)) (eq-eqb (get_or after i 0) x is)
 later_case nodes more middle after x i only e h l (inr late) = ap (λ b. (get_or after i 0 == x) || b) (e.fresh i late l) ∙ sym (or_true (get_or after i 0 == x))
@@ -63,5 +63,5 @@ extended nodes (x ∷ more) =
       longer = omega arith;
       same = λ i l. rest.same i (omega arith) ∙ same_added nodes x i (has nodes x) l;
       fresh = λ i h l. later_case nodes more (with_node nodes x) (with_nodes (with_node nodes x) more) x i (λ m a b. fresh_added nodes x m (has nodes x) a b) rest h l (cases_lt i (length (with_node nodes x)));
-      holds = λ n. rest.holds n ∙ or_assoc (has nodes n) (n == x) (has more n) (has (with_node nodes x) n) (has_added nodes x n (has nodes x) refl (n == x) refl)
+      holds = λ n. rest.holds n ∙ or_assoc (has nodes n) (n == x) (has more n) (has (with_node nodes x) n) (has_added nodes x n (has nodes x) refl (n == x) refl);
     }

@@ -29,15 +29,15 @@ mark marks nodes n m l e (inr apart) =
 
 pub found_more : (marks : List Bool) (nodes : List ℕ) (n : ℕ) → n < length marks → get_or marks n false ≡ false → IsFound marks nodes → IsFound (set marks n true) (nodes ++ n ∷ [])
 found_more marks nodes n l new f = record {
-    once = IsDistinct-push nat_eq_equiv nodes n f.once (sym (f.marked n l) ∙ new);
-    below = subst (λ size. All (λ m. m < size) (nodes ++ n ∷ [])) (sym (length-set marks n true)) (All-push (λ m. m < length marks) nodes n f.below l);
-    marked = λ m h. mark marks nodes n m l (f.marked m (subst (λ size. m < size) (length-set marks n true) h)) (cases_eq m n)
-  }
+  once = IsDistinct-push nat_eq_equiv nodes n f.once (sym (f.marked n l) ∙ new);
+  below = subst (λ size. All (λ m. m < size) (nodes ++ n ∷ [])) (sym (length-set marks n true)) (All-push (λ m. m < length marks) nodes n f.below l);
+  marked = λ m h. mark marks nodes n m l (f.marked m (subst (λ size. m < size) (length-set marks n true) h)) (cases_eq m n);
+}
 
 pub none_found : (count : ℕ) (marks : List Bool) (nodes : List ℕ) → marks ≡ replicate count false → nodes ≡ [] → IsFound marks nodes
 unfolding IsDistinct
 none_found count marks nodes e n = subst (λ xs. IsFound marks xs) (sym n) (record {
-    once = tt;
-    below = All-nil (λ m. m < length marks);
-    marked = λ m h. ap (λ l. get_or l m false) e ∙ get_or-replicate count m false false (let size : length marks ≡ count = ap length e ∙ length-replicate count false in omega arith)
-  })
+  once = tt;
+  below = All-nil (λ m. m < length marks);
+  marked = λ m h. ap (λ l. get_or l m false) e ∙ get_or-replicate count m false false (let size : length marks ≡ count = ap length e ∙ length-replicate count false in omega arith);
+})

@@ -32,10 +32,10 @@ installed_is plan n zero d = any_is_has (depends plan n) d
 installed_is plan n (suc rounds) d =
     ap (λ b. b || list_any (λ member. is_installed plan rounds n member && list_any (λ to. to == d) (later_depends plan member)) (nodes plan)) (installed_is plan n rounds d)
     ∙ ap (λ b. is_reached (later_depends plan) (length plan.jobs) (depends plan n) rounds d || b)
-      (any_agree (λ member. is_installed plan rounds n member && list_any (λ to. to == d) (later_depends plan member))
-        (λ member. is_reached (later_depends plan) (length plan.jobs) (depends plan n) rounds member && has (later_depends plan member) d) (nodes plan)
-        (λ member. ap (λ b. b && list_any (λ to. to == d) (later_depends plan member)) (installed_is plan n rounds member)
-          ∙ ap (λ b. is_reached (later_depends plan) (length plan.jobs) (depends plan n) rounds member && b) (any_is_has (later_depends plan member) d)))
+    (any_agree (λ member. is_installed plan rounds n member && list_any (λ to. to == d) (later_depends plan member))
+    (λ member. is_reached (later_depends plan) (length plan.jobs) (depends plan n) rounds member && has (later_depends plan member) d) (nodes plan)
+    (λ member. ap (λ b. b && list_any (λ to. to == d) (later_depends plan member)) (installed_is plan n rounds member)
+    ∙ ap (λ b. is_reached (later_depends plan) (length plan.jobs) (depends plan n) rounds member && b) (any_is_has (later_depends plan member) d)))
 
 module _ (plan : PlanView) (n count : ℕ) (start after : FoundView) (size : count ≡ length plan.jobs)
     (is : start ≡ (let v : FoundView = record { count = count; nodes = with_nodes [] (depends plan n) } in v)) (spreads : Spreads (later_depends plan) start after) where
@@ -47,15 +47,15 @@ module _ (plan : PlanView) (n count : ℕ) (start after : FoundView) (size : cou
       let same : start.count ≡ length plan.jobs = ap (λ v. v.count) is ∙ size in
       e ∙ ap (λ c. filter (has after.nodes) (range_with_len 0 c)) (spreads.count ∙ same)
       ∙ filter_agree_below (has after.nodes) (is_installed plan (length plan.jobs) n) (length plan.jobs)
-        (λ d l. subst (λ c. has after.nodes d ≡ is_reached (later_depends plan) c (depends plan n) c d) same (spreads.rounds (depends plan n) start_same d (subst (λ c. d < c) (sym same) l))
-          ∙ sym (installed_is plan n (length plan.jobs) d))
+      (λ d l. subst (λ c. has after.nodes d ≡ is_reached (later_depends plan) c (depends plan n) c d) same (spreads.rounds (depends plan n) start_same d (subst (λ c. d < c) (sym same) l))
+      ∙ sym (installed_is plan n (length plan.jobs) d))
 
 -- the edges of a plan go to its nodes
 target_at : (plan : PlanView) → IsPlan plan → (n d : ℕ) → n < length plan.jobs → has (depends plan n) d ≡ true → d < length plan.jobs
 target_at plan p n d l h =
     let all : list_all (λ to. nat_lt to (length plan.jobs)) (depends plan n) ≡ true =
-        all_has (λ m. list_all (λ to. nat_lt to (length plan.jobs)) (depends plan m) ≡ true) (nodes plan) n
-        (AllPass-from_list_all (λ m. list_all (λ to. nat_lt to (length plan.jobs)) (depends plan m)) (nodes plan) p.targets) (has-range (length plan.jobs) n l) in
+    all_has (λ m. list_all (λ to. nat_lt to (length plan.jobs)) (depends plan m) ≡ true) (nodes plan) n
+    (AllPass-from_list_all (λ m. list_all (λ to. nat_lt to (length plan.jobs)) (depends plan m)) (nodes plan) p.targets) (has-range (length plan.jobs) n l) in
     ltb-true d (length plan.jobs) (all_has (λ to. nat_lt to (length plan.jobs) ≡ true) (depends plan n) d (AllPass-from_list_all (λ to. nat_lt to (length plan.jobs)) (depends plan n) all) h)
 
 pub plan_within : (plan : PlanView) → IsPlan plan → IsWithin (length plan.edges) plan.edges
@@ -64,9 +64,9 @@ plan_within plan p n d l i e h =
     let within : i < length (get_or plan.edges n []) = subst (λ edges. i < length edges) same h in
     let node : n < length plan.jobs = (let size : length plan.edges ≡ length plan.jobs = p.edges in omega arith) in
     let member : has (depends plan n) (get_or (get_or plan.edges n []) i e).to ≡ true =
-        has_from_place (depends plan n) (get_or (get_or plan.edges n []) i e).to i
-        (let size : length (depends plan n) ≡ length (get_or plan.edges n []) = length-map (get_or plan.edges n []) (λ (edge : Edge). edge.to) in omega arith)
-        (get_or-map (λ (edge : Edge). edge.to) (get_or plan.edges n []) i e 0 within) in
+    has_from_place (depends plan n) (get_or (get_or plan.edges n []) i e).to i
+    (let size : length (depends plan n) ≡ length (get_or plan.edges n []) = length-map (get_or plan.edges n []) (λ (edge : Edge). edge.to) in omega arith)
+    (get_or-map (λ (edge : Edge). edge.to) (get_or plan.edges n []) i e 0 within) in
     subst (λ edges. (get_or edges i e).to < length plan.edges) (sym same)
     (let below : (get_or (get_or plan.edges n []) i e).to < length plan.jobs = target_at plan p n (get_or (get_or plan.edges n []) i e).to node member in
-     let size : length plan.edges ≡ length plan.jobs = p.edges in omega arith)
+    let size : length plan.edges ≡ length plan.jobs = p.edges in omega arith)

@@ -11,3 +11,4 @@ pub mod Waiting
 pub mod Turns
 pub mod Ordered
 pub mod LongChains
+pub mod OrderLaws

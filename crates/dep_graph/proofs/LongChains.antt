@@ -46,10 +46,10 @@ pub raise_one : (edges : List Edge) (i : ℕ) (e : Edge) (value : ℕ) (before n
     → get_or after (get_or edges i e).to 0 ≡ max (get_or now (get_or edges i e).to 0) value → ((m : ℕ) → (m ≡ (get_or edges i e).to → ⊥) → get_or after m 0 ≡ get_or now m 0)
     → Raised (targets (take i edges)) value before now → Raised (targets (take (i + 1) edges)) value before after
 raise_one edges i e value before now after l size here there r = record {
-    size = size ∙ r.size;
-    numbers = λ d k. place_case (targets (take i edges)) value (get_or edges i e).to d before now after r k here there (cases_eq d (get_or edges i e).to)
-      ∙ ap (λ places. raised (has places d) value (get_or before d 0)) (sym (targets_more edges i e l))
-  }
+  size = size ∙ r.size;
+  numbers = λ d k. place_case (targets (take i edges)) value (get_or edges i e).to d before now after r k here there (cases_eq d (get_or edges i e).to)
+      ∙ ap (λ places. raised (has places d) value (get_or before d 0)) (sym (targets_more edges i e l));
+}
 
 pub raise_at : (edges : List Edge) (i : ℕ) (e : Edge) (value : ℕ) (before now after : List ℕ) → i < length edges → (get_or edges i e).to < length before
     → after ≡ set now (get_or edges i e).to (max (get_or now (get_or edges i e).to 0) value)
@@ -65,8 +65,8 @@ raise_at edges i e value before now after l b is r =
 pub not_in_front : (order : List ℕ) (k i : ℕ) → IsDistinct nat_eq order → k ≤ i → i < length order → has (take k order) (get_or order i 0) ≡ false
 not_in_front order k i once before l =
     false_from_ne_true (has (take k order) (get_or order i 0)) (λ h.
-      both_ways (has (take i order) (get_or order i 0)) (not_before order i once l)
-      (has_first k (take i order) (get_or order i 0) (ap (λ xs. has xs (get_or order i 0)) (take-take k i order before) ∙ h)))
+    both_ways (has (take i order) (get_or order i 0)) (not_before order i once l)
+    (has_first k (take i order) (get_or order i 0) (ap (λ xs. has xs (get_or order i 0)) (take-take k i order before) ∙ h)))
 
 module _ (graph : List (List Edge)) (order : List ℕ) where
   -- the last nodes of the order gave all that is below them its length
@@ -97,10 +97,10 @@ module _ (graph : List (List Edge)) (order : List ℕ) where
   unraised k i value before after o b l x is r so_far =
       let node : get_or order i 0 < length graph = All-get_or (λ n. n < length graph) order i 0 l o.nodes in
       let out : has (depends_at graph x) (get_or order i 0) ≡ false =
-          false_from_ne_true (has (depends_at graph x) (get_or order i 0)) (λ h.
-            both_ways (has (take k order) (get_or order i 0)) (not_in_front order k i o.once b l)
-            (all_has (λ d. has (take k order) d ≡ true) (depends_at graph x) (get_or order i 0)
-              (subst (λ n. All (λ d. has (take k order) d ≡ true) (depends_at graph n)) is (o.behind k (omega arith))) h)) in
+      false_from_ne_true (has (depends_at graph x) (get_or order i 0)) (λ h.
+      both_ways (has (take k order) (get_or order i 0)) (not_in_front order k i o.once b l)
+      (all_has (λ d. has (take k order) d ≡ true) (depends_at graph x) (get_or order i 0)
+      (subst (λ n. All (λ d. has (take k order) d ≡ true) (depends_at graph n)) is (o.behind k (omega arith))) h)) in
       r.numbers (get_or order i 0) (let s : length before ≡ length graph = so_far.size in omega arith)
       ∙ ap (λ b. raised b value (get_or before (get_or order i 0) 0)) out
 
@@ -140,24 +140,24 @@ module _ (graph : List (List Edge)) (order : List ℕ) where
       record {
         size = r.size ∙ so_far.size;
         few = λ d l.
-          let here : get_or after d 0 ≡ raised (has (depends_at graph x) d) value (get_or before d 0) = r.numbers d (let s : length before ≡ length graph = so_far.size in omega arith) in
-          let few_x : get_or before x 0 ≤ done = so_far.few x node in
-          let few_d : raised (has (depends_at graph x) d) value (get_or before d 0) ≤ done + 1 = at_most_one (has (depends_at graph x) d) value (get_or before d 0) done (so_far.few d l) (omega arith) in
-          omega arith;
+            let here : get_or after d 0 ≡ raised (has (depends_at graph x) d) value (get_or before d 0) = r.numbers d (let s : length before ≡ length graph = so_far.size in omega arith) in
+            let few_x : get_or before x 0 ≤ done = so_far.few x node in
+            let few_d : raised (has (depends_at graph x) d) value (get_or before d 0) ≤ done + 1 = at_most_one (has (depends_at graph x) d) value (get_or before d 0) done (so_far.few d l) (omega arith) in
+            omega arith;
         found = λ d l.
-          subst (HasChain graph d) (sym (r.numbers d (let s : length before ≡ length graph = so_far.size in omega arith)))
-          (chain_case x d (get_or before d 0) value (so_far.found d l) (subst (HasChain graph x) (let m : get_or before x 0 ≡ value - 1 = omega arith in m) (so_far.found x node)) (omega arith)
+            subst (HasChain graph d) (sym (r.numbers d (let s : length before ≡ length graph = so_far.size in omega arith)))
+            (chain_case x d (get_or before d 0) value (so_far.found d l) (subst (HasChain graph x) (let m : get_or before x 0 ≡ value - 1 = omega arith in m) (so_far.found x node)) (omega arith)
             (has (depends_at graph x) d) refl (cases_lt (get_or before d 0) value));
-        below = λ i b l d h. step_below done k i d value before after o e x is v within r so_far l h (from_k k i done e b (cases_eq i k))
+        below = λ i b l d h. step_below done k i d value before after o e x is v within r so_far l h (from_k k i done e b (cases_eq i k));
       }
 
   pub lengths_begin : (lengths : List ℕ) → lengths ≡ replicate (length graph) 0 → LengthsSoFar 0 lengths
   lengths_begin lengths e = record {
-      size = ap length e ∙ length-replicate (length graph) 0;
-      few = λ d l. (let z : get_or lengths d 0 ≡ 0 = zero_at lengths d e l in omega arith);
-      found = λ d l. subst (HasChain graph d) (sym (zero_at lengths d e l)) ([], refl, refl);
-      below = λ i b l d h. absurd (omega arith)
-    }
+    size = ap length e ∙ length-replicate (length graph) 0;
+    few = λ d l. (let z : get_or lengths d 0 ≡ 0 = zero_at lengths d e l in omega arith);
+    found = λ d l. subst (HasChain graph d) (sym (zero_at lengths d e l)) ([], refl, refl);
+    below = λ i b l d h. absurd (omega arith);
+  }
 
   longest_case : (done n : ℕ) (lengths above : List ℕ) → length order ≤ done → ((m : ℕ) → m < length graph → has order m ≡ true) → LengthsSoFar done lengths → n < length graph
       → is_chain_above graph n above ≡ true → length above ≤ get_or lengths n 0
@@ -168,7 +168,7 @@ module _ (graph : List (List Edge)) (order : List ℕ) where
       let place : Place order m = place_of order m (all m node) in
       let w : place.at < length order = place.within in
       let step : get_or lengths (get_or order place.at 0) 0 + 1 ≤ get_or lengths n 0 =
-          so_far.below place.at (omega arith) w n (subst (λ x. has (depends_at graph x) n ≡ true) (sym place.is) both.0) in
+      so_far.below place.at (omega arith) w n (subst (λ x. has (depends_at graph x) n ≡ true) (sym place.is) both.0) in
       let same : get_or lengths (get_or order place.at 0) 0 ≡ get_or lengths m 0 = ap (λ x. get_or lengths x 0) place.is in
       let rest : length above ≤ get_or lengths m 0 = longest_case done m lengths above l all so_far node both.1 in
       omega arith
@@ -176,7 +176,7 @@ module _ (graph : List (List Edge)) (order : List ℕ) where
   pub all_longest : (done : ℕ) (lengths : List ℕ) → length order ≤ done → IsLooplessPart graph order → is_loopless graph ≡ true → LengthsSoFar done lengths
       → (n : ℕ) → n < length graph → IsLongest graph n (get_or lengths n 0)
   all_longest done lengths l p free so_far n b = record {
-      found = so_far.found n b;
-      most = λ above h. longest_case done n lengths above l
-        (λ m t. p.free m t ∙ all_has (λ x. is_free graph x ≡ true) (nodes_of graph) m (AllPass-from_list_all (is_free graph) (nodes_of graph) free) (has-range (length graph) m t)) so_far b h
-    }
+    found = so_far.found n b;
+    most = λ above h. longest_case done n lengths above l
+        (λ m t. p.free m t ∙ all_has (λ x. is_free graph x ≡ true) (nodes_of graph) m (AllPass-from_list_all (is_free graph) (nodes_of graph) free) (has-range (length graph) m t)) so_far b h;
+  }

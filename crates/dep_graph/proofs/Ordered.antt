@@ -48,10 +48,10 @@ all_outside (x ∷ numbers) = count_outside-cons [] numbers x ∙ ap (λ t. 1 + 
 distinct_filter : (p : ℕ → Bool) (count : ℕ) → IsDistinct nat_eq (filter p (range_with_len 0 count))
 distinct_filter p count =
     let rises : AllPairs (λ x y. x < y) (filter p (range_with_len 0 count)) =
-        AllPairs-from_increasing (filter p (range_with_len 0 count)) (IsStrictlyIncreasing-filter p (range_with_len 0 count) (increasing_range count)) in
+    AllPairs-from_increasing (filter p (range_with_len 0 count)) (IsStrictlyIncreasing-filter p (range_with_len 0 count) (increasing_range count)) in
     IsDistinct-from_apart nat_eq (filter p (range_with_len 0 count))
     (λ i j d b l. ne_eqb (get_or (filter p (range_with_len 0 count)) i d) (get_or (filter p (range_with_len 0 count)) j d)
-      (λ e. let less : get_or (filter p (range_with_len 0 count)) i d < get_or (filter p (range_with_len 0 count)) j d = rises i j d b l in omega arith))
+    (λ e. let less : get_or (filter p (range_with_len 0 count)) i d < get_or (filter p (range_with_len 0 count)) j d = rises i j d b l in omega arith))
 
 module _ (graph : List (List Edge)) where
   edges_counted : (left : List ℕ) (n : ℕ) → left ≡ map (λ edges. length edges) graph → n < length graph → get_or left n 0 ≡ length (depends_at graph n)
@@ -62,7 +62,7 @@ module _ (graph : List (List Edge)) where
   begin_waiting left order e o =
       let size : length left ≡ length graph = ap length e ∙ length-map graph (λ (edges : List Edge). length edges) in
       let member : (n : ℕ) → has order n ≡ ((get_or left n 0 == 0) && has (range_with_len 0 (length left)) n) =
-          λ n. ap (λ l. has l n) o ∙ has-filter (λ m. get_or left m 0 == 0) (range_with_len 0 (length left)) n in
+      λ n. ap (λ l. has l n) o ∙ has-filter (λ m. get_or left m 0 == 0) (range_with_len 0 (length left)) n in
       record {
         size = size;
         within = omega arith;
@@ -70,15 +70,15 @@ module _ (graph : List (List Edge)) where
         ordered = λ n l. member n ∙ ap (λ b. (get_or left n 0 == 0) && b) (has-range (length left) n (omega arith)) ∙ and_true (get_or left n 0 == 0);
         in_order = record {
           nodes = all_from_has (λ n. n < length graph) order (λ n h.
-            let below : n < length left = below-range (length left) n (and_parts (get_or left n 0 == 0) (has (range_with_len 0 (length left)) n) (sym (member n) ∙ h)).1 in omega arith);
+              let below : n < length left = below-range (length left) n (and_parts (get_or left n 0 == 0) (has (range_with_len 0 (length left)) n) (sym (member n) ∙ h)).1 in omega arith);
           once = subst (IsDistinct nat_eq) (sym o) (distinct_filter (λ n. get_or left n 0 == 0) (length left));
           behind = λ place l.
-            let both : ((get_or left (get_or order place 0) 0 == 0) ≡ true) × (has (range_with_len 0 (length left)) (get_or order place 0) ≡ true) =
-                and_parts (get_or left (get_or order place 0) 0 == 0) (has (range_with_len 0 (length left)) (get_or order place 0)) (sym (member (get_or order place 0)) ∙ has_at order place l) in
-            let below : get_or order place 0 < length graph = (let b : get_or order place 0 < length left = below-range (length left) (get_or order place 0) both.1 in omega arith) in
-            let none : length (depends_at graph (get_or order place 0)) ≡ 0 = sym (edges_counted left (get_or order place 0) e below) ∙ eqb-true (get_or left (get_or order place 0) 0) 0 both.0 in
-            subst (λ numbers. All (λ d. has (take place order) d ≡ true) numbers) (sym (nil_from_length (depends_at graph (get_or order place 0)) none)) (All-nil (λ d. has (take place order) d ≡ true))
-        }
+              let both : ((get_or left (get_or order place 0) 0 == 0) ≡ true) × (has (range_with_len 0 (length left)) (get_or order place 0) ≡ true) =
+              and_parts (get_or left (get_or order place 0) 0 == 0) (has (range_with_len 0 (length left)) (get_or order place 0)) (sym (member (get_or order place 0)) ∙ has_at order place l) in
+              let below : get_or order place 0 < length graph = (let b : get_or order place 0 < length left = below-range (length left) (get_or order place 0) both.1 in omega arith) in
+              let none : length (depends_at graph (get_or order place 0)) ≡ 0 = sym (edges_counted left (get_or order place 0) e below) ∙ eqb-true (get_or left (get_or order place 0) 0) 0 both.0 in
+              subst (λ numbers. All (λ d. has (take place order) d ≡ true) numbers) (sym (nil_from_length (depends_at graph (get_or order place 0)) none)) (All-nil (λ d. has (take place order) d ≡ true));
+        };
       }
 
   -- rounds that take nodes away
@@ -87,7 +87,7 @@ module _ (graph : List (List Edge)) where
   away_more (suc rounds) n h =
       list_all-from_AllPass (is_away graph (suc rounds)) (depends_at graph n)
       (all_from_has (λ d. is_away graph (suc rounds) d ≡ true) (depends_at graph n)
-        (λ d t. away_more rounds d (all_has (λ d. is_away graph rounds d ≡ true) (depends_at graph n) d (AllPass-from_list_all (is_away graph rounds) (depends_at graph n) h) t)))
+      (λ d t. away_more rounds d (all_has (λ d. is_away graph rounds d ≡ true) (depends_at graph n) d (AllPass-from_list_all (is_away graph rounds) (depends_at graph n) h) t)))
 
   away_add : (more rounds n : ℕ) → is_away graph rounds n ≡ true → is_away graph (more + rounds) n ≡ true
   away_add zero rounds n h = let e : rounds ≡ zero + rounds = omega arith in subst (λ r. is_away graph r n ≡ true) e h
@@ -102,13 +102,13 @@ module _ (graph : List (List Edge)) where
   placed_below list o (suc bound) i b l =
       list_all-from_AllPass (is_away graph i) (depends_at graph (get_or list i 0))
       (all_from_has (λ d. is_away graph i d ≡ true) (depends_at graph (get_or list i 0))
-        (λ d h.
-          let place : Place (take i list) d = place_of (take i list) d (all_has (λ d. has (take i list) d ≡ true) (depends_at graph (get_or list i 0)) d (o.behind i l) h) in
-          let size : length (take i list) ≡ i = length-take-le i list (omega arith) in
-          let before : place.at < i = (let w : place.at < length (take i list) = place.within in omega arith) in
-          let is : get_or list place.at 0 ≡ d = sym (get_or-take i list place.at 0 before) ∙ place.is in
-          subst (λ n. is_away graph i n ≡ true) is
-          (away_upto (suc place.at) i (get_or list place.at 0) (omega arith) (placed_below list o bound place.at (omega arith) (omega arith)))))
+      (λ d h.
+      let place : Place (take i list) d = place_of (take i list) d (all_has (λ d. has (take i list) d ≡ true) (depends_at graph (get_or list i 0)) d (o.behind i l) h) in
+      let size : length (take i list) ≡ i = length-take-le i list (omega arith) in
+      let before : place.at < i = (let w : place.at < length (take i list) = place.within in omega arith) in
+      let is : get_or list place.at 0 ≡ d = sym (get_or-take i list place.at 0 before) ∙ place.is in
+      subst (λ n. is_away graph i n ≡ true) is
+      (away_upto (suc place.at) i (get_or list place.at 0) (omega arith) (placed_below list o bound place.at (omega arith) (omega arith)))))
 
   pub ordered_is_free : (list : List ℕ) → IsInOrder graph list → (n : ℕ) → has list n ≡ true → is_free graph n ≡ true
   ordered_is_free list o n h =
@@ -125,7 +125,7 @@ module _ (graph : List (List Edge)) where
       let by : Staying keeps (depends_at graph n) = next n h in
       false_from_ne_true (list_all (is_away graph rounds) (depends_at graph n))
       (λ all. both_ways (is_away graph rounds by.at) (stays keeps next rounds by.at by.does)
-        (all_has (λ d. is_away graph rounds d ≡ true) (depends_at graph n) by.at (AllPass-from_list_all (is_away graph rounds) (depends_at graph n) all) by.member))
+      (all_has (λ d. is_away graph rounds d ≡ true) (depends_at graph n) by.at (AllPass-from_list_all (is_away graph rounds) (depends_at graph n) all) by.member))
 
   not_ordered : (left order : List ℕ) (at : ℕ) → IsWithin (length graph) graph → length order ≤ at → IsWaiting graph at [] left order → (n : ℕ) → (not (has order n) && has (nodes_of graph) n) ≡ true
       → Staying (λ m. not (has order m) && has (nodes_of graph) m) (depends_at graph n)
@@ -134,13 +134,13 @@ module _ (graph : List (List Edge)) where
       let below : n < length graph = below-range (length graph) n both.1 in
       let waits : get_or left n 0 ≢ 0 = λ z. both_ways (has order n) (is_not (has order n) both.0) (w.ordered n below ∙ eq-eqb (get_or left n 0) 0 z) in
       let some : 0 < count_outside order (depends_at graph n) =
-          subst (λ list. 0 < count_outside list (depends_at graph n)) (take_all at order l)
-          (let e : get_or left n 0 ≡ count_outside (take at order) (depends_at graph n) + 0 = w.counts n below in omega arith) in
+      subst (λ list. 0 < count_outside list (depends_at graph n)) (take_all at order l)
+      (let e : get_or left n 0 ≡ count_outside (take at order) (depends_at graph n) + 0 = w.counts n below in omega arith) in
       let by : Outside order (depends_at graph n) = some_outside order (depends_at graph n) some in
       record {
         at = by.at;
         member = by.member;
-        does = and_from (not (has order by.at)) (has (nodes_of graph) by.at) (ap not by.out) (has-range (length graph) by.at (target_below (length graph) graph n by.at within by.member))
+        does = and_from (not (has order by.at)) (has (nodes_of graph) by.at) (ap not by.out) (has-range (length graph) by.at (target_below (length graph) graph n by.at within by.member));
       }
 
   free_case : (left order : List ℕ) (at : ℕ) → IsWithin (length graph) graph → length order ≤ at → IsWaiting graph at [] left order → (n : ℕ) → n < length graph → is_free graph n ≡ true
@@ -148,16 +148,16 @@ module _ (graph : List (List Edge)) where
   free_case left order at within l w n below free true e = e
   free_case left order at within l w n below free false e =
       absurd (both_ways (is_free graph n)
-        (stays (λ m. not (has order m) && has (nodes_of graph) m) (not_ordered left order at within l w) (length graph) n
-          (and_from (not (has order n)) (has (nodes_of graph) n) (ap not e) (has-range (length graph) n below)))
-        free)
+      (stays (λ m. not (has order m) && has (nodes_of graph) m) (not_ordered left order at within l w) (length graph) n
+      (and_from (not (has order n)) (has (nodes_of graph) n) (ap not e) (has-range (length graph) n below)))
+      free)
 
   pub part_is : (left order : List ℕ) (at : ℕ) → IsWithin (length graph) graph → length order ≤ at → IsWaiting graph at [] left order → IsLooplessPart graph order
   part_is left order at within l w = record {
-      in_order = w.in_order;
-      free = λ n b. same_bool (has order n) (is_free graph n) (ordered_is_free order w.in_order n)
-        (λ free. free_case left order at within l w n b free (has order n) refl)
-    }
+    in_order = w.in_order;
+    free = λ n b. same_bool (has order n) (is_free graph n) (ordered_is_free order w.in_order n)
+        (λ free. free_case left order at within l w n b free (has order n) refl);
+  }
 
   -- the next node of the order
   pub next_below : (turned : List (List Edge)) (at node : ℕ) (left order : List ℕ) → turned ≡ dependents graph → Some node ≡ slice_get order at → IsWaiting graph at [] left order → node < length turned
@@ -186,14 +186,14 @@ module _ (graph : List (List Edge)) where
   whole_case part p size n l true e = e
   whole_case part p size n l false e =
       absurd (let few : length (part ++ n ∷ []) ≤ length graph =
-          at_most (part ++ n ∷ []) (length graph) (IsDistinct-push nat_eq_equiv part n p.in_order.once e) (All-push (λ m. m < length graph) part n p.in_order.nodes l) in
-        omega (arith, length_push part n))
+      at_most (part ++ n ∷ []) (length graph) (IsDistinct-push nat_eq_equiv part n p.in_order.once e) (All-push (λ m. m < length graph) part n p.in_order.nodes l) in
+      omega (arith, length_push part n))
 
   pub whole_part : (part : List ℕ) → IsLooplessPart graph part → length part ≡ length graph → IsDependencyOrder graph part
   whole_part part p size = record {
-      all = λ n l. whole_case part p size n l (has part n) refl;
-      in_order = p.in_order
-    }
+    all = λ n l. whole_case part p size n l (has part n) refl;
+    in_order = p.in_order;
+  }
 
   pub free_all : (part : List ℕ) → IsLooplessPart graph part → is_loopless graph ≡ true → length graph ≤ length part
   free_all part p h =

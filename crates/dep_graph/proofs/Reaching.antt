@@ -73,15 +73,15 @@ module _ (graph : List (List Edge)) (from : List ℕ) (after : FoundView) (count
 
   reach_of_filter : All (λ n. n < length graph) from → IsWithin (length graph) graph → IsReach graph from (filter (has after.nodes) (range_with_len 0 count))
   reach_of_filter inside within = record {
-      ascending = IsStrictlyIncreasing-filter (has after.nodes) (range_with_len 0 count) (increasing_range count);
-      begun = all_from_has (λ n. has (filter (has after.nodes) (range_with_len 0 count)) n ≡ true) from
+    ascending = IsStrictlyIncreasing-filter (has after.nodes) (range_with_len 0 count) (increasing_range count);
+    begun = all_from_has (λ n. has (filter (has after.nodes) (range_with_len 0 count)) n ≡ true) from
         (λ n h. into n (found_below inside n h) (found_is n (found_below inside n h) ∙ rounds_upto (depends_at graph) count from 0 count n (omega arith) h));
-      closed = λ n l h. all_from_has (λ d. has (filter (has after.nodes) (range_with_len 0 count)) d ≡ true) (depends_at graph n)
+    closed = λ n l h. all_from_has (λ d. has (filter (has after.nodes) (range_with_len 0 count)) d ≡ true) (depends_at graph n)
         (λ d t. into d (let b : d < length graph = target_below (length graph) graph n d within t in omega arith)
-          (all_has (λ d. has after.nodes d ≡ true) (depends_at graph n) d (spreads.closed n (out_of n h)) t));
-      least = λ keeps closed begun. all_from_has (λ n. keeps n ≡ true) (filter (has after.nodes) (range_with_len 0 count))
-        (λ n h. in_closed keeps closed begun n (in_range n h) (out_of n h))
-    }
+        (all_has (λ d. has after.nodes d ≡ true) (depends_at graph n) d (spreads.closed n (out_of n h)) t));
+    least = λ keeps closed begun. all_from_has (λ n. keeps n ≡ true) (filter (has after.nodes) (range_with_len 0 count))
+        (λ n h. in_closed keeps closed begun n (in_range n h) (out_of n h));
+  }
 
   pub is_reach : (reached : List ℕ) → reached ≡ filter (has after.nodes) (range_with_len 0 after.count) → All (λ n. n < length graph) from → IsWithin (length graph) graph → IsReach graph from reached
   is_reach reached e inside within =

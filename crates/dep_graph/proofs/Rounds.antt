@@ -25,7 +25,7 @@ pub passes_below : (p : ℕ → Bool) (count : ℕ) → list_any p (range_with_l
 passes_below p count h =
     let found : Any (λ x. p x ≡ true) (range_with_len 0 count) = Any-from_list_any p (range_with_len 0 count) h in
     let member : has (range_with_len 0 count) found.1 ≡ true =
-        subst (λ x. has (range_with_len 0 count) x ≡ true) (get_or_default (range_with_len 0 count) found.0 0 found.1 found.2 ∙ found.3) (has_at (range_with_len 0 count) found.0 found.2) in
+    subst (λ x. has (range_with_len 0 count) x ≡ true) (get_or_default (range_with_len 0 count) found.0 0 found.1 found.2 ∙ found.3) (has_at (range_with_len 0 count) found.0 found.2) in
     record { at = found.1; within = below-range count found.1 member; does = found.4 }
 
 module _ (leads : ℕ → List ℕ) (count : ℕ) (from : List ℕ) where

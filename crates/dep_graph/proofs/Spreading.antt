@@ -24,11 +24,11 @@ pub record SoFar (leads : ℕ → List ℕ) (count : ℕ) (first : List ℕ) (at
 module _ (leads : ℕ → List ℕ) (count : ℕ) (first : List ℕ) where
   pub spread_begin : SoFar leads count first 0 first
   spread_begin = record {
-      closed = λ i l. absurd (omega arith);
-      begun = λ n h. h;
-      rounds = λ from same i l. rounds_upto leads count from 0 i (get_or first i 0) (omega arith) (sym (same (get_or first i 0)) ∙ has_at first i l);
-      inside = omega arith
-    }
+    closed = λ i l. absurd (omega arith);
+    begun = λ n h. h;
+    rounds = λ from same i l. rounds_upto leads count from 0 i (get_or first i 0) (omega arith) (sym (same (get_or first i 0)) ∙ has_at first i l);
+    inside = omega arith;
+  }
 
   grown : (nodes more after : List ℕ) → Extends nodes more after → (numbers : List ℕ) → HasAll nodes numbers → HasAll after numbers
   grown nodes more after e numbers all =
@@ -55,11 +55,11 @@ module _ (leads : ℕ → List ℕ) (count : ℕ) (first : List ℕ) where
   pub spread_more : (at : ℕ) (nodes after : List ℕ) → at < length nodes → get_or nodes at 0 < count → Extends nodes (leads (get_or nodes at 0)) after
       → SoFar leads count first at nodes → SoFar leads count first (at + 1) after
   spread_more at nodes after l node e so_far = record {
-      closed = λ i h. closed_case at i nodes after l e so_far h (cases_lt i at);
-      begun = λ n h. e.holds n ∙ or_left (has nodes n) (has (leads (get_or nodes at 0)) n) (so_far.begun n h);
-      rounds = λ from same i h. round_case at i nodes after from l node e so_far same h (cases_lt i (length nodes));
-      inside = (let longer : length nodes ≤ length after = e.longer in omega arith)
-    }
+    closed = λ i h. closed_case at i nodes after l e so_far h (cases_lt i at);
+    begun = λ n h. e.holds n ∙ or_left (has nodes n) (has (leads (get_or nodes at 0)) n) (so_far.begun n h);
+    rounds = λ from same i h. round_case at i nodes after from l node e so_far same h (cases_lt i (length nodes));
+    inside = (let longer : length nodes ≤ length after = e.longer in omega arith);
+  }
 
   all_closed : (at : ℕ) (nodes : List ℕ) → length nodes ≤ at → SoFar leads count first at nodes → (n : ℕ) → has nodes n ≡ true → HasAll nodes (leads n)
   all_closed at nodes l so_far n h =
@@ -76,18 +76,18 @@ module _ (leads : ℕ → List ℕ) (count : ℕ) (first : List ℕ) where
   pub spread_all : (at : ℕ) (before after : FoundView) → before ≡ (let v : FoundView = record { count = count; nodes = first } in v) → after.count ≡ count → length after.nodes ≤ at → length after.nodes ≤ count
       → SoFar leads count first at after.nodes → Spreads leads before after
   spread_all at before after is size l small so_far = subst (λ b. Spreads leads b after) (sym is) (record {
-      count = size;
-      closed = all_closed at after.nodes l so_far;
-      rounds = λ from same n h. same_bool (has after.nodes n) (is_reached leads count from count n)
+    count = size;
+    closed = all_closed at after.nodes l so_far;
+    rounds = λ from same n h. same_bool (has after.nodes n) (is_reached leads count from count n)
         (found_rounds at after.nodes from small same so_far n)
-        (stays_within leads count from (has after.nodes) (λ m t. so_far.begun m (same m ∙ t)) (λ m b t. all_closed at after.nodes l so_far m t) count n)
-    })
+        (stays_within leads count from (has after.nodes) (λ m t. so_far.begun m (same m ∙ t)) (λ m b t. all_closed at after.nodes l so_far m t) count n);
+  })
 
   pub spread_on : (at node : ℕ) (before after : FoundView) (more : List ℕ) → Some node ≡ slice_get before.nodes at → node < count → more ≡ leads node → after ≡ found_with before more
       → SoFar leads count first at before.nodes → SoFar leads count first (at + 1) after.nodes
   spread_on at node before after more h l e is so_far =
       let here : (at < length before.nodes) × (get_or before.nodes at 0 ≡ node) = got before.nodes at node h in
       let grows : Extends before.nodes (leads (get_or before.nodes at 0)) after.nodes =
-          subst (λ v. Extends before.nodes (leads (get_or before.nodes at 0)) v.nodes) (sym is)
-          (subst (λ numbers. Extends before.nodes numbers (with_nodes before.nodes more)) (e ∙ ap leads (sym here.1)) (extended before.nodes more)) in
+      subst (λ v. Extends before.nodes (leads (get_or before.nodes at 0)) v.nodes) (sym is)
+      (subst (λ numbers. Extends before.nodes numbers (with_nodes before.nodes more)) (e ∙ ap leads (sym here.1)) (extended before.nodes more)) in
       spread_more at before.nodes after.nodes here.0 (subst (λ x. x < count) (sym here.1) l) grows so_far

@@ -16,12 +16,12 @@ flat_map_range_more f n = ap (flat_map f) (range_more n) ∙ sym (flat_map_more 
 pub kind_more : (n kind : ℕ) (edges : List Edge) (first before after : List (List Edge)) → Grew first before (λ d. flat_map (λ k. turned_of_kind n k d edges) (range_with_len 0 kind))
     → Grew before after (λ d. turned_of_kind n kind d edges) → Grew first after (λ d. flat_map (λ k. turned_of_kind n k d edges) (range_with_len 0 (kind + 1)))
 kind_more n kind edges first before after so_far step = record {
-    size = step.size ∙ so_far.size;
-    lists = λ d l.
+  size = step.size ∙ so_far.size;
+  lists = λ d l.
       step.lists d (let size : length before ≡ length first = so_far.size in omega arith) ∙ ap (λ x. x ++ turned_of_kind n kind d edges) (so_far.lists d l)
       ∙ append_assoc (edges_at first d) (flat_map (λ k. turned_of_kind n k d edges) (range_with_len 0 kind)) (turned_of_kind n kind d edges)
-      ∙ ap (λ x. edges_at first d ++ x) (sym (flat_map_range_more (λ k. turned_of_kind n k d edges) kind))
-  }
+      ∙ ap (λ x. edges_at first d ++ x) (sym (flat_map_range_more (λ k. turned_of_kind n k d edges) kind));
+}
 
 module _ (graph : List (List Edge)) where
   -- the turned edges of the nodes below a bound
@@ -31,17 +31,17 @@ module _ (graph : List (List Edge)) where
 
   pub none_turned : (lists : List (List Edge)) → lists ≡ replicate (length graph) [] → TurnedBelow 0 lists
   none_turned lists e = record {
-      size = ap length e ∙ length-replicate (length graph) [];
-      lists = λ d l. ap (λ x. get_or x d []) e ∙ get_or-replicate (length graph) d [] [] l
-    }
+    size = ap length e ∙ length-replicate (length graph) [];
+    lists = λ d l. ap (λ x. get_or x d []) e ∙ get_or-replicate (length graph) d [] [] l;
+  }
 
   pub node_turned : (n : ℕ) (before after : List (List Edge)) → Grew before after (λ d. turned_from n d (edges_at graph n)) → TurnedBelow n before → TurnedBelow (n + 1) after
   node_turned n before after step so_far = record {
-      size = step.size ∙ so_far.size;
-      lists = λ d l.
+    size = step.size ∙ so_far.size;
+    lists = λ d l.
         step.lists d (let size : length before ≡ length graph = so_far.size in omega arith) ∙ ap (λ x. x ++ turned_from n d (edges_at graph n)) (so_far.lists d l)
-        ∙ sym (flat_map_range_more (λ m. turned_from m d (edges_at graph m)) n)
-    }
+        ∙ sym (flat_map_range_more (λ m. turned_from m d (edges_at graph m)) n);
+  }
 
   pub all_turned : (n : ℕ) (lists : List (List Edge)) → n ≡ length graph → TurnedBelow n lists → lists ≡ dependents graph
   all_turned n lists e so_far =
@@ -61,14 +61,14 @@ module _ (graph : List (List Edge)) where
   dependents_within =
       All-map (λ edges. All (λ (e : Edge). e.to < length graph) edges) (dependents_at graph) (nodes_of graph)
       (λ k d h. all_in (λ (e : Edge). e.to < length graph) (λ n. turned_from n (get_or (nodes_of graph) k d) (edges_at graph n)) (nodes_of graph)
-        (all_from_has (λ n. All (λ (e : Edge). e.to < length graph) (turned_from n (get_or (nodes_of graph) k d) (edges_at graph n))) (nodes_of graph)
-          (λ n b. all_in (λ (e : Edge). e.to < length graph) (λ kind. turned_of_kind n kind (get_or (nodes_of graph) k d) (edges_at graph n)) (range_with_len 0 7)
-            (λ j i t. of_kind_within (length graph) n (get_or (range_with_len 0 7) j i) (get_or (nodes_of graph) k d) (edges_at graph n) (below-range (length graph) n b)))))
+      (all_from_has (λ n. All (λ (e : Edge). e.to < length graph) (turned_from n (get_or (nodes_of graph) k d) (edges_at graph n))) (nodes_of graph)
+      (λ n b. all_in (λ (e : Edge). e.to < length graph) (λ kind. turned_of_kind n kind (get_or (nodes_of graph) k d) (edges_at graph n)) (range_with_len 0 7)
+      (λ j i t. of_kind_within (length graph) n (get_or (range_with_len 0 7) j i) (get_or (nodes_of graph) k d) (edges_at graph n) (below-range (length graph) n b)))))
 
   pub turned_form : (lists : List (List Edge)) → IsGraph graph → lists ≡ dependents graph → IsGraph lists
   turned_form lists g e =
       let size : length (dependents graph) ≡ length graph = length-map (nodes_of graph) (dependents_at graph) ∙ length-range_with_len 0 (length graph) in
       subst IsGraph (sym e) (record {
         few = subst (λ n. n < 2 ^ 32) (sym size) g.few;
-        within = subst (λ n. IsWithin n (dependents graph)) (sym size) dependents_within
+        within = subst (λ n. IsWithin n (dependents graph)) (sym size) dependents_within;
       })

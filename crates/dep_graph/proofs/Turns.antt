@@ -90,7 +90,7 @@ all_kinds : (d : ℕ) (edges : List Edge) → sum_by (λ kind. count_by (is_edge
 all_kinds d [] = refl
 all_kinds d (edge ∷ edges) =
     sum_agree (λ kind. count_by (is_edge_to kind d) (edge ∷ edges)) (λ kind. one_if (is_edge_to kind d edge) + count_by (is_edge_to kind d) edges) (range_with_len 0 7)
-      (λ kind. sum_by-cons (λ (e : Edge). cond (is_edge_to kind d e) 1 0) edge edges)
+    (λ kind. sum_by-cons (λ (e : Edge). cond (is_edge_to kind d e) 1 0) edge edges)
     ∙ sum_both (λ kind. one_if (is_edge_to kind d edge)) (λ kind. count_by (is_edge_to kind d) edges) (range_with_len 0 7)
     ∙ ap (λ t. t + sum_by (λ kind. count_by (is_edge_to kind d) edges) (range_with_len 0 7)) (one_kind edge.kind (edge.to == d) ∙ ap one_if (eq_turned edge.to d))
     ∙ ap (λ t. one_if (d == edge.to) + t) (all_kinds d edges)

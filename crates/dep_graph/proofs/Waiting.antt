@@ -106,7 +106,7 @@ outside_step list [] x new = refl
 outside_step list (y ∷ numbers) x new =
     count_outside-cons list numbers y ∙ step_case list numbers x y new (outside_step list numbers x new) (x == y) refl
     ∙ sym (ap (λ t. t + times (y ∷ numbers) x) (count_outside-cons (list ++ x ∷ []) numbers y)
-      ∙ ap (λ t. one_if (not (has (list ++ x ∷ []) y)) + count_outside (list ++ x ∷ []) numbers + t) (times-cons numbers y x))
+    ∙ ap (λ t. one_if (not (has (list ++ x ∷ []) y)) + count_outside (list ++ x ∷ []) numbers + t) (times-cons numbers y x))
 
 -- a node stands once in an order
 before_case : (order : List ℕ) (at : ℕ) → IsDistinct nat_eq order → at < length order → (b : Bool) → has (take at order) (get_or order at 0) ≡ b → b ≡ false
@@ -116,7 +116,7 @@ before_case order at once l true e =
     let size : length (take at order) ≡ at = length-take-le at order (omega arith) in
     let before : place.at < at = (let w : place.at < length (take at order) = place.within in omega arith) in
     absurd (both_ways (get_or order place.at 0 == get_or order at 0) (apart_from_distinct nat_eq order place.at at 0 once before l)
-      (eq-eqb (get_or order place.at 0) (get_or order at 0) (sym (get_or-take at order place.at 0 before) ∙ place.is)))
+    (eq-eqb (get_or order place.at 0) (get_or order at 0) (sym (get_or-take at order place.at 0 before) ∙ place.is)))
 
 pub not_before : (order : List ℕ) (at : ℕ) → IsDistinct nat_eq order → at < length order → has (take at order) (get_or order at 0) ≡ false
 not_before order at once l = before_case order at once l (has (take at order) (get_or order at 0)) refl
@@ -126,16 +126,16 @@ module _ (graph : List (List Edge)) where
   pub take_up : (at : ℕ) (left order users : List ℕ) → at < length order → ((n : ℕ) → n < length graph → times users n ≡ times (depends_at graph n) (get_or order at 0))
       → IsWaiting graph at [] left order → IsWaiting graph (at + 1) users left order
   take_up at left order users l e w = record {
-      size = w.size;
-      within = omega arith;
-      counts = λ n h.
+    size = w.size;
+    within = omega arith;
+    counts = λ n h.
         w.counts n h ∙ (let z : count_outside (take at order) (depends_at graph n) + 0 ≡ count_outside (take at order) (depends_at graph n) = omega arith in z)
         ∙ outside_step (take at order) (depends_at graph n) (get_or order at 0) (not_before order at w.in_order.once l)
         ∙ ap (λ t. count_outside (take at order ++ get_or order at 0 ∷ []) (depends_at graph n) + t) (sym (e n h))
         ∙ ap (λ list. count_outside list (depends_at graph n) + times users n) (sym (take_more order at 0 l));
-      ordered = w.ordered;
-      in_order = w.in_order
-    }
+    ordered = w.ordered;
+    in_order = w.in_order;
+  }
 
   -- a dependency of a waiting node less
   count_case : (at m n : ℕ) (rest left order : List ℕ) → m < length graph → n < length graph → IsWaiting graph at (m ∷ rest) left order → (n ≡ m) ⊎ (n ≡ m → ⊥)
@@ -143,7 +143,7 @@ module _ (graph : List (List Edge)) where
   count_case at m n rest left order b l w (inl same) =
       let one : one_if (n == m) ≡ 1 = ap one_if (eq-eqb n m same) in
       let was : get_or left n 0 ≡ count_outside (take at order) (depends_at graph n) + (1 + times rest n) =
-          w.counts n l ∙ ap (λ t. count_outside (take at order) (depends_at graph n) + t) (times-cons rest m n ∙ ap (λ t. t + times rest n) one) in
+      w.counts n l ∙ ap (λ t. count_outside (take at order) (depends_at graph n) + t) (times-cons rest m n ∙ ap (λ t. t + times rest n) one) in
       let here : m < length left = (let size : length left ≡ length graph = w.size in omega arith) in
       ap (λ x. get_or (set left m (get_or left m 0 - 1)) x 0) same ∙ get_or-set_same left m (get_or left m 0 - 1) 0 here ∙ ap (λ x. get_or left x 0 - 1) (sym same)
       ∙ (omega arith)
@@ -156,7 +156,7 @@ module _ (graph : List (List Edge)) where
   waits at m rest left order b w =
       let one : one_if (m == m) ≡ 1 = ap one_if (eq-eqb m m refl) in
       let e : get_or left m 0 ≡ count_outside (take at order) (depends_at graph m) + (1 + times rest m) =
-          w.counts m b ∙ ap (λ t. count_outside (take at order) (depends_at graph m) + t) (times-cons rest m m ∙ ap (λ t. t + times rest m) one) in
+      w.counts m b ∙ ap (λ t. count_outside (take at order) (depends_at graph m) + t) (times-cons rest m m ∙ ap (λ t. t + times rest m) one) in
       omega arith
 
   new_node : (at m : ℕ) (rest left order : List ℕ) → m < length graph → IsWaiting graph at (m ∷ rest) left order → has order m ≡ false
@@ -191,7 +191,7 @@ module _ (graph : List (List Edge)) where
       let here : length order ≡ place = omega (arith, length_push order m) in
       let one : one_if (m == m) ≡ 1 = ap one_if (eq-eqb m m refl) in
       let e : get_or left m 0 ≡ count_outside (take at order) (depends_at graph m) + (1 + times rest m) =
-          w.counts m b ∙ ap (λ t. count_outside (take at order) (depends_at graph m) + t) (times-cons rest m m ∙ ap (λ t. t + times rest m) one) in
+      w.counts m b ∙ ap (λ t. count_outside (take at order) (depends_at graph m) + t) (times-cons rest m m ∙ ap (λ t. t + times rest m) one) in
       let none : count_outside (take at order) (depends_at graph m) ≡ 0 = omega arith in
       subst (λ list. All (λ d. has list d ≡ true) (depends_at graph (get_or (order ++ m ∷ []) place 0))) (sym (take_at order (m ∷ []) place here))
       (subst (λ n. All (λ d. has order d ≡ true) (depends_at graph n)) (sym (get_or_push order m 0 place here))
@@ -201,27 +201,27 @@ module _ (graph : List (List Edge)) where
   pub wait_on : (at m : ℕ) (rest left order : List ℕ) → m < length graph → (get_or left m 0 ≡ 1 → ⊥) → IsWaiting graph at (m ∷ rest) left order
       → IsWaiting graph at rest (set left m (get_or left m 0 - 1)) order
   wait_on at m rest left order b more w = record {
-      size = length-set left m (get_or left m 0 - 1) ∙ w.size;
-      within = w.within;
-      counts = λ n l. count_case at m n rest left order b l w (cases_eq n m);
-      ordered = λ n l. still_case at m n rest left order b l more w (cases_eq n m);
-      in_order = w.in_order
-    }
+    size = length-set left m (get_or left m 0 - 1) ∙ w.size;
+    within = w.within;
+    counts = λ n l. count_case at m n rest left order b l w (cases_eq n m);
+    ordered = λ n l. still_case at m n rest left order b l more w (cases_eq n m);
+    in_order = w.in_order;
+  }
 
   -- the node waited for nothing else, and ends the order
   pub wait_over : (at m : ℕ) (rest left order : List ℕ) → m < length graph → get_or left m 0 ≡ 1 → IsWaiting graph at (m ∷ rest) left order
       → IsWaiting graph at rest (set left m (get_or left m 0 - 1)) (order ++ m ∷ [])
   wait_over at m rest left order b last w = record {
-      size = length-set left m (get_or left m 0 - 1) ∙ w.size;
-      within = (let inside : at ≤ length order = w.within in omega (arith, length_push order m));
-      counts = λ n l. count_case at m n rest left order b l w (cases_eq n m) ∙ ap (λ list. count_outside list (depends_at graph n) + times rest n) (sym (take-append-le at order (m ∷ []) w.within));
-      ordered = λ n l. over_case at m n rest left order b l last w (cases_eq n m);
-      in_order = record {
-        nodes = All-push (λ n. n < length graph) order m w.in_order.nodes b;
-        once = IsDistinct-push nat_eq_equiv order m w.in_order.once (new_node at m rest left order b w);
-        behind = λ place l. behind_case at m place rest left order b last w l (cases_lt place (length order))
-      }
-    }
+    size = length-set left m (get_or left m 0 - 1) ∙ w.size;
+    within = (let inside : at ≤ length order = w.within in omega (arith, length_push order m));
+    counts = λ n l. count_case at m n rest left order b l w (cases_eq n m) ∙ ap (λ list. count_outside list (depends_at graph n) + times rest n) (sym (take-append-le at order (m ∷ []) w.within));
+    ordered = λ n l. over_case at m n rest left order b l last w (cases_eq n m);
+    in_order = record {
+      nodes = All-push (λ n. n < length graph) order m w.in_order.nodes b;
+      once = IsDistinct-push nat_eq_equiv order m w.in_order.once (new_node at m rest left order b w);
+      behind = λ place l. behind_case at m place rest left order b last w l (cases_lt place (length order));
+    };
+  }
 
   close_case : (at m : ℕ) (rest left order : List ℕ) → m < length graph → IsWaiting graph at (m ∷ rest) left order → (b : Bool) → (get_or left m 0 == 1) ≡ b
       → IsWaiting graph at rest (set left m (get_or left m 0 - 1)) (cond b (order ++ m ∷ []) order)
@@ -238,7 +238,7 @@ fits_case : (rest left : List ℕ) (m n : ℕ) → m < length left → times (m 
 fits_case rest left m n l h (inl same) =
     let one : times (m ∷ rest) n ≡ 1 + times rest n = times-cons rest m n ∙ ap (λ b. one_if b + times rest n) (eq-eqb n m same) in
     let now : get_or (set left m (get_or left m 0 - 1)) n 0 ≡ get_or left n 0 - 1 =
-        ap (λ x. get_or (set left m (get_or left m 0 - 1)) x 0) same ∙ get_or-set_same left m (get_or left m 0 - 1) 0 l ∙ ap (λ x. get_or left x 0 - 1) (sym same) in
+    ap (λ x. get_or (set left m (get_or left m 0 - 1)) x 0) same ∙ get_or-set_same left m (get_or left m 0 - 1) 0 l ∙ ap (λ x. get_or left x 0 - 1) (sym same) in
     omega arith
 fits_case rest left m n l h (inr apart) =
     let none : times (m ∷ rest) n ≡ 0 + times rest n = times-cons rest m n ∙ ap (λ b. one_if b + times rest n) (ne_eqb n m apart) in

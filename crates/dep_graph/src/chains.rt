@@ -22,7 +22,11 @@ fn raise_all(numbers: &mut Vec<u32>, edges: &[Edge], value: u32)
 
 /// For each node, the number of edges of the longest chain of dependents above it. Each node and each edge is looked at
 /// once, from the end of the order.
-pub(crate) fn longest_chains(alloc: Global, graph: &[Edges], order: &[u32]) -> Result<Vec<u32>, NoMemory>
+pub(crate) fn longest_chains(
+    alloc: Global,
+    graph: &[Edges],
+    order: &[u32],
+) -> Result<Vec<u32>, NoMemory>
     requires form { IsGraph graph.now }
     requires order { IsLooplessPart graph.now order.now }
     requires loop_free { IsTrue (is_loopless graph.now) }

@@ -5,6 +5,7 @@ mod chains;
 mod found;
 mod graph;
 mod installed;
+mod law;
 mod order;
 mod spread;
 #[cfg(test)]
@@ -13,3 +14,4 @@ mod turned;
 
 pub use graph::Graph;
 pub use installed::installs;
+pub use law::laws;

@@ -92,7 +92,11 @@ impl Waiting {
 }
 
 /// The nodes that no loop holds up, each once, behind all its dependencies. Each node and each edge is looked at once.
-pub(crate) fn loopless_part(alloc: Global, graph: &[Edges], dependents: &[Edges]) -> Result<Vec<u32>, NoMemory>
+pub(crate) fn loopless_part(
+    alloc: Global,
+    graph: &[Edges],
+    dependents: &[Edges],
+) -> Result<Vec<u32>, NoMemory>
     requires graph { IsGraph graph.now }
     requires dependents { IsGraph dependents.now }
     requires turned { dependents.now ≡ turned_edges graph.now }

@@ -90,6 +90,23 @@ fn put(edges: &mut Edges, count: usize, edge: Edge) -> Result<(), AllocError>
     Ok(())
 }
 
+/// Takes a byte of a node's part of a case: a kind, or an edge.
+fn take_byte(
+    edges: &mut Edges,
+    kind: &mut DepKind,
+    count: usize,
+    byte: u8,
+) -> Result<(), AllocError>
+    ensures { OnOk result (All (λ e. e.to < count) edges.old → All (λ e. e.to < count) edges.new) }
+{
+    if !byte.is_ascii_digit() {
+        *kind = kind_of(byte);
+        return Ok(());
+    }
+    let to = u32::from(byte % 16);
+    put(edges, count, Edge { kind: *kind, to })
+}
+
 /// The edges that a node's part of a case names.
 fn edges_in(alloc: Global, count: usize, text: &[u8]) -> Result<Edges, AllocError>
     ensures { IfOk result (λ edges. All (λ e. e.to < count) edges) }
@@ -97,12 +114,7 @@ fn edges_in(alloc: Global, count: usize, text: &[u8]) -> Result<Edges, AllocErro
     let mut edges = Sequence::new(alloc);
     let mut kind = DepKind::Build;
     for byte in text {
-        if byte.is_ascii_digit() {
-            let to = u32::from(*byte % 16);
-            put(&mut edges, count, Edge { kind, to })?;
-        } else {
-            kind = kind_of(*byte);
-        }
+        take_byte(&mut edges, &mut kind, count, *byte)?;
     }
     Ok(edges)
 }
@@ -191,19 +203,34 @@ fn graphs_by_the_definitions(rt: HostRuntime) -> Result<(), Fail> {
     Ok(())
 }
 
-/// So many nodes, each of which depends on the one before it.
-fn chain(alloc: Global, count: usize) -> Result<Graph, AllocError>
-    requires { count < 10000 }
+/// An edge to the node before, if there is one.
+fn edge_before(alloc: Global, count: usize, n: u32) -> Result<Edges, AllocError>
+    ensures { IfOk result (λ edges. All (λ e. e.to < count) edges) }
 {
+    let mut edges = Sequence::new(alloc);
+    let to = n.wrapping_sub(1);
+    let kind = DepKind::Run;
+    put(&mut edges, count, Edge { kind, to })?;
+    Ok(edges)
+}
+
+/// So many nodes, each of which depends on the one before it.
+fn chain(alloc: Global, count: u32) -> Result<Graph, AllocError> {
     let mut lists = Vec::new(alloc);
     for n in 0..count {
-        let mut edges = Sequence::new(alloc);
-        if n != 0 {
-            put(&mut edges, count, Edge { kind: DepKind::Run, to: n as u32 - 1 })?;
-        }
-        lists.push(edges)?;
+        lists.push(edge_before(alloc, count as usize, n)?)?;
     }
-    graph_of(alloc, count, lists)
+    graph_of(alloc, count as usize, lists)
+}
+
+#[test]
+fn no_nodes(rt: HostRuntime) -> Result<(), Fail> {
+    let alloc = rt.alloc();
+    let graph = chain(alloc, 0)?;
+    let order = graph.order(alloc)?;
+    assert!(rt; order.is_some_and(|nodes| nodes.is_empty()));
+    assert!(rt; graph.dependents(alloc)?.edges().is_empty());
+    Ok(())
 }
 
 #[test]

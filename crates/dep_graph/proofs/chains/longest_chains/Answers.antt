@@ -31,9 +31,12 @@ loop-done-init c = lengths_begin c.args.graph.now c.args.order.now c.in_ok-lengt
 
 pub overflow_add-longer : goal.overflow_add-longer
 overflow_add-longer c =
-    omega (arith, fits c.args.graph.now c.args.order.now c.loop-done.lengths.items c.loop-done.done (length c.args.order.now - 1 - c.loop-done.done) c.index.result.now
-      c.requires.form c.requires.order c.loop-done-test.true (omega arith) c.loop-done.invariant
-      (read c.args.graph.now c.args.order.now c.loop-done.lengths.items c.loop-done.done (length c.args.order.now - 1 - c.loop-done.done) c.index.result.now c.requires.order (omega arith) c.loop-done.invariant c.index.ensures))
+    omega (
+      arith,
+      fits c.args.graph.now c.args.order.now c.loop-done.lengths.items c.loop-done.done (length c.args.order.now - 1 - c.loop-done.done) c.index.result.now
+          c.requires.form c.requires.order c.loop-done-test.true (omega arith) c.loop-done.invariant
+          (read c.args.graph.now c.args.order.now c.loop-done.lengths.items c.loop-done.done (length c.args.order.now - 1 - c.loop-done.done) c.index.result.now c.requires.order (omega arith) c.loop-done.invariant c.index.ensures),
+    )
 
 pub loop-done-preserved : goal.loop-done-preserved
 loop-done-preserved c =

@@ -10,8 +10,8 @@ loop-edge-preserved c =
     let no_edge : Edge = record { kind = Pkg; to = 0 } in
     let to : ℕ = (get_or c.args.edges.now c.loop-edge.edge-index no_edge).to in
     let within : to < length c.loop-edge.numbers.items =
-        (let b : to < length c.args.numbers.now.items = c.requires c.loop-edge.edge-index no_edge c.loop-edge-test.true in
-         let size : length c.loop-edge.numbers.items ≡ length c.args.numbers.now.items = c.loop-edge.invariant.size in omega arith) in
+    (let b : to < length c.args.numbers.now.items = c.requires c.loop-edge.edge-index no_edge c.loop-edge-test.true in
+    let size : length c.loop-edge.numbers.items ≡ length c.args.numbers.now.items = c.loop-edge.invariant.size in omega arith) in
     raise_at c.args.edges.now c.loop-edge.edge-index no_edge c.args.value c.args.numbers.now.items c.loop-edge.numbers.items (set c.loop-edge.numbers.items to c.max.result) c.loop-edge-test.true
     (c.requires c.loop-edge.edge-index no_edge c.loop-edge-test.true)
     (ap (set c.loop-edge.numbers.items to) (c.max.ensures ∙ ap (λ x. max x c.args.value) (get_or_read c.loop-edge.numbers.items to c.index.result.now within c.index.ensures 0))) c.loop-edge.invariant

@@ -1,4 +1,4 @@
-use Rattle.std.proofs.Common.{◌≡◌, ◌<◌, ℕ, List, [], length, get_or, arith, refl, ap, sym, subst, ◌∙◌}
+use Rattle.std.proofs.Common.{◌≡◌, ◌<◌, ℕ, List, [], length, get_or, arith, ap, sym, subst, ◌∙◌}
 use Rattle.std.specs.Prelude.{filter}
 use Rattle.std.specs.List.{All, range_with_len}
 use Rattle.std.proofs.lemmas.List.{get_or_read}
@@ -8,9 +8,9 @@ use Rattle.bulk_model.specs.declared.plan.Edge.{Edge}
 use Rattle.bulk_model.specs.PlanView.{PlanView, edges_from, depends}
 use Rattle.bulk_model.specs.PlanFacts.{IsPlan}
 use Rattle.bulk_model.specs.Installs.{installs, later_depends}
-use Rattle.dep_graph.specs.declared.spread.Follow.TheVariants.{All as Every, Later}
+use Rattle.dep_graph.specs.declared.spread.Follow.TheVariants.{Later}
 use Rattle.dep_graph.specs.Graphs.{has, targets, IsWithin}
-use Rattle.dep_graph.specs.Found.{FoundView, Spreads, with_nodes, found_with, followed, leads_to}
+use Rattle.dep_graph.specs.Found.{FoundView, Spreads, with_nodes, found_with, leads_to}
 use Rattle.dep_graph.proofs.Installing.{installed_are, plan_within}
 use Rattle.dep_graph.proofs.installed.installs.Goals as goal
 
@@ -48,10 +48,10 @@ returns c =
     let node : c.args.n < length c.as_slice-graph.result.now = node_within c.args.plan.now c.as_slice-graph.result.now c.args.n plan same c.requires in
     let size : length c.as_slice-graph.result.now ≡ length c.args.plan.now.jobs = ap length same ∙ plan.edges in
     let edges : c.as_slice.result.now ≡ edges_from c.args.plan.now c.args.n =
-        c.as_slice.ensures ∙ read c.args.plan.now c.as_slice-graph.result.now c.args.n c.index-graph-n.result same node c.index-graph-n.is in
+    c.as_slice.ensures ∙ read c.args.plan.now c.as_slice-graph.result.now c.args.n c.index-graph-n.result same node c.index-graph-n.is in
     let spreads : Spreads (later_depends c.args.plan.now) c.add_edges.new.found c.spread.new.found =
-        subst (λ g. Spreads (leads_to Later g) c.add_edges.new.found c.spread.new.found) same c.in_ok-spread.ensures in
+    subst (λ g. Spreads (leads_to Later g) c.add_edges.new.found c.spread.new.found) same c.in_ok-spread.ensures in
     IfOk-weaker c.ascending.result (λ numbers. numbers ≡ filter (has c.spread.new.found.nodes) (range_with_len 0 c.spread.new.found.count)) (λ numbers. numbers ≡ installs c.args.plan.now c.args.n)
     (installed_are c.args.plan.now c.args.n (length c.as_slice-graph.result.now) c.add_edges.new.found c.spread.new.found size
-      (begun c.args.plan.now (length c.as_slice-graph.result.now) c.args.n c.in_ok-found.found c.add_edges.new.found c.as_slice.result.now c.in_ok-found.ensures c.in_ok-add_edges.ensures edges) spreads)
+    (begun c.args.plan.now (length c.as_slice-graph.result.now) c.args.n c.in_ok-found.found c.add_edges.new.found c.as_slice.result.now c.in_ok-found.ensures c.in_ok-add_edges.ensures edges) spreads)
     c.ascending.ensures

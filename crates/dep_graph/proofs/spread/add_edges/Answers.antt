@@ -1,7 +1,6 @@
-use Rattle.std.proofs.Common.{◌≡◌, ◌<◌, ℕ, length, get_or, take, arith, ap, sym, ◌∙◌, refl}
+use Rattle.std.proofs.Common.{get_or, ap, sym, ◌∙◌}
 use Rattle.bulk_model.specs.declared.depend.DepKind.TheVariants.{Pkg}
 use Rattle.bulk_model.specs.declared.plan.Edge.{Edge}
-use Rattle.dep_graph.specs.Found.{followed, follows, found_with}
 use Rattle.dep_graph.proofs.Following.{edge_more, after_edge}
 use Rattle.dep_graph.proofs.spread.add_edges.Goals as goal
 use Rattle.dep_graph.proofs.spread.add_edges.Goals.{then-takes+in_ok-add, else-takes}

@@ -1,16 +1,15 @@
-use Rattle.std.proofs.Common.{◌≡◌, ◌<◌, ◌≤◌, ℕ, List, [], length, get_or, arith, ap, sym, ◌∙◌, refl, Some, None}
-use Rattle.std.specs.List.{slice_get}
+use Rattle.std.proofs.Common.{◌<◌, ◌≤◌, [], length, arith, ap, ◌∙◌}
 use Rattle.std.proofs.lemmas.List.{get_or_read}
 use Rattle.dep_graph.specs.Found.{leads_to, followed, FoundView}
 use Rattle.dep_graph.proofs.Members.{got, not_got}
-use Rattle.dep_graph.proofs.Spreading.{SoFar, spread_begin, spread_on, spread_all}
+use Rattle.dep_graph.proofs.Spreading.{spread_begin, spread_on, spread_all}
 use Rattle.dep_graph.proofs.spread.spread.Goals as goal
 
 pub loop-node-init : goal.loop-node-init
 loop-node-init c = record {
-    count = c.requires.count;
-    so_far = spread_begin (leads_to c.args.follow c.args.graph.now) (length c.args.graph.now) c.args.found.now.nodes
-  }
+  count = c.requires.count;
+  so_far = spread_begin (leads_to c.args.follow c.args.graph.now) (length c.args.graph.now) c.args.found.now.nodes;
+}
 
 pub loop-node-smaller : goal.loop-node-smaller
 loop-node-smaller c =
@@ -23,9 +22,9 @@ loop-node-preserved c =
     record {
       count = ap (λ f. f.count) c.in_ok-add_edges.ensures ∙ c.loop-node.invariant.count;
       so_far = spread_on (leads_to c.args.follow c.args.graph.now) (length c.args.graph.now) c.args.found.now.nodes c.loop-node.at c.in-Some.node c.loop-node.found c.add_edges.new.found
-        (followed c.args.follow c.as_slice.result.now) c.in-Some.ensures.node node
-        (ap (followed c.args.follow) (c.as_slice.ensures ∙ get_or_read c.args.graph.now c.in-Some.node c.index-graph-node.result node c.index-graph-node.is []))
-        c.in_ok-add_edges.ensures c.loop-node.invariant.so_far
+          (followed c.args.follow c.as_slice.result.now) c.in-Some.ensures.node node
+          (ap (followed c.args.follow) (c.as_slice.ensures ∙ get_or_read c.args.graph.now c.in-Some.node c.index-graph-node.result node c.index-graph-node.is []))
+          c.in_ok-add_edges.ensures c.loop-node.invariant.so_far;
     }
 
 pub returns : goal.returns

@@ -1,4 +1,4 @@
-use Rattle.std.proofs.Common.{◌≡◌, take}
+use Rattle.std.proofs.Common.{take}
 use Rattle.dep_graph.specs.Turned.{Grew, turned_of_kind}
 use Rattle.dep_graph.proofs.turned.turn_kind.Given as goal
 

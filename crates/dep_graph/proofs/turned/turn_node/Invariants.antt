@@ -1,4 +1,3 @@
-use Rattle.std.proofs.Common.{◌≡◌}
 use Rattle.std.specs.List.{flat_map, range_with_len}
 use Rattle.dep_graph.specs.Turned.{Grew, turned_of_kind}
 use Rattle.dep_graph.proofs.turned.turn_node.Given as goal

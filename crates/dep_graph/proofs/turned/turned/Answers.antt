@@ -1,8 +1,7 @@
-use Rattle.std.proofs.Common.{◌≡◌, ◌<◌, ◌≤◌, ℕ, List, [], length, arith, ap, subst, sym, ◌∙◌}
+use Rattle.std.proofs.Common.{◌≡◌, [], arith, subst, ◌∙◌}
 use Rattle.std.proofs.lemmas.List.{get_or_read}
-use Rattle.bulk_model.specs.declared.plan.Edge.{Edge}
-use Rattle.dep_graph.specs.Graphs.{IsGraph, edges_at}
-use Rattle.dep_graph.specs.Turned.{turned_from, dependents, Grew}
+use Rattle.dep_graph.specs.Graphs.{edges_at}
+use Rattle.dep_graph.specs.Turned.{turned_from, Grew}
 use Rattle.dep_graph.proofs.Turning.{none_turned, node_turned, all_turned, turned_form}
 use Rattle.dep_graph.proofs.turned.turned.Goals as goal
 
@@ -12,7 +11,7 @@ loop-n-init c = none_turned c.args.graph.now c.in_ok-lists.lists.items c.in_ok-l
 pub loop-n-preserved : goal.loop-n-preserved
 loop-n-preserved c =
     let edges : c.as_slice.result.now ≡ edges_at c.args.graph.now c.loop-n.n =
-        c.as_slice.ensures ∙ get_or_read c.args.graph.now c.loop-n.n c.index-graph-n.result (omega arith) c.index-graph-n.is [] in
+    c.as_slice.ensures ∙ get_or_read c.args.graph.now c.loop-n.n c.index-graph-n.result (omega arith) c.index-graph-n.is [] in
     node_turned c.args.graph.now c.loop-n.n c.loop-n.lists.items c.turn_node.new.lists.items
     (subst (λ l. Grew c.loop-n.lists.items c.turn_node.new.lists.items (λ d. turned_from c.loop-n.n d l)) edges c.in_ok-turn_node.ensures) c.loop-n.invariant
 

@@ -1,4 +1,4 @@
-use Rattle.std.proofs.Common.{◌≤◌, length, ap, subst}
+use Rattle.std.proofs.Common.{◌≤◌, length, subst}
 use Rattle.dep_graph.specs.Found.{FoundView}
 use Rattle.dep_graph.proofs.Members.{at_most}
 use Rattle.dep_graph.proofs.found.Found.get.Goals as goal

@@ -1,4 +1,4 @@
-use Rattle.std.proofs.Common.{◌≡◌, ◌<◌, ◌≤◌, ℕ, Bool, true, false, List, length, arith, ap, sym, subst, ◌∙◌}
+use Rattle.std.proofs.Common.{◌≡◌, ◌≤◌, ℕ, false, List, length, arith, ap, sym}
 use Rattle.std.proofs.lemmas.Bool.{false_from_ne_true}
 use Rattle.bulk_model.specs.declared.plan.Edge.{Edge}
 use Rattle.dep_graph.specs.Order.{IsLooplessPart, is_loopless}
@@ -9,9 +9,9 @@ use Rattle.dep_graph.proofs.graph.Graph.order.Goals as goal
 not_loopless : (graph : List (List Edge)) (part : List ℕ) → IsLooplessPart graph part → (length part ≡ length graph → ⊥) → false ≡ is_loopless graph
 not_loopless graph part p other =
     sym (false_from_ne_true (is_loopless graph) (λ h.
-      let all : length graph ≤ length part = free_all graph part p h in
-      let few : length part ≤ length graph = at_most part (length graph) p.in_order.once p.in_order.nodes in
-      other (omega arith)))
+    let all : length graph ≤ length part = free_all graph part p h in
+    let few : length part ≤ length graph = at_most part (length graph) p.in_order.once p.in_order.nodes in
+    other (omega arith)))
 
 pub returns-then-len-clause-order : goal.returns-then-len-clause-order
 returns-then-len-clause-order c =

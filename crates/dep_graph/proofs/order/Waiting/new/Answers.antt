@@ -1,4 +1,4 @@
-use Rattle.std.proofs.Common.{◌≡◌, length, get_or, ap, ◌∙◌}
+use Rattle.std.proofs.Common.{length, get_or, ap, ◌∙◌}
 use Rattle.std.specs.Prelude.{filter, ◌==◌}
 use Rattle.std.specs.List.{range_with_len}
 use Rattle.dep_graph.proofs.Ordered.{begin_waiting}
