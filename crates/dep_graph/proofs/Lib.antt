@@ -1,0 +1,14 @@
+pub mod Members
+pub mod Finding
+pub mod Extending
+pub mod Following
+pub mod Rounds
+pub mod Spreading
+pub mod Reaching
+pub mod Installing
+pub mod Turning
+pub mod Waiting
+pub mod Turns
+pub mod Ordered
+pub mod LongChains
+pub mod OrderLaws

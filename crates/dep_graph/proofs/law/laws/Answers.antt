@@ -1,0 +1,11 @@
+use Rattle.dep_graph.proofs.OrderLaws.{prefix_closed, chains_fall, installs_before}
+use Rattle.dep_graph.proofs.law.laws.Goals as goal
+
+pub returns-clause-prefix : goal.returns-clause-prefix
+returns-clause-prefix c = prefix_closed
+
+pub returns-clause-chains : goal.returns-clause-chains
+returns-clause-chains c = chains_fall
+
+pub returns-clause-installed : goal.returns-clause-installed
+returns-clause-installed c = installs_before
