@@ -1,5 +1,6 @@
 // Records that are read and refused, by hand from docs/FORMATS.md, "The package record, version 1".
 use super::*;
+use bulk_model::Package;
 use std::alloc::{AllocError, Global};
 use std::test::Fail;
 
@@ -169,27 +170,44 @@ fn decoded(alloc: Global, text: &[u8]) -> Result<Marked, AllocError> {
     Ok(Marked { bytes, place })
 }
 
+fn fault(error: &RecordError) -> (u8, u64) {
+    match error {
+        RecordError::Short => (b'?', 0),
+        RecordError::BadField { place } => (b'!', *place),
+        RecordError::BadDigest { .. } => (b'#', 0),
+        RecordError::NoMemory => (b'-', 1),
+    }
+}
+
+/// `=` where a package's record is these bytes.
+fn written(alloc: Global, built: &Package, record: &[u8]) -> Result<(u8, u64), AllocError> {
+    let again = write(alloc, built)?;
+    Ok((if again.as_slice() == record { b'=' } else { b'-' }, 0))
+}
+
 /// What a record answers: a case's first byte, and the place of BadField.
 fn answer(alloc: Global, record: &[u8]) -> Result<(u8, u64), AllocError> {
-    Ok(match read(alloc, record) {
-        Ok(built) if write(alloc, &built)?.as_slice() == record => (b'=', 0),
-        Ok(_) => (b'-', 0),
-        Err(RecordError::Short) => (b'?', 0),
-        Err(RecordError::BadField { place }) => (b'!', place),
-        Err(RecordError::BadDigest { .. }) => (b'#', 0),
-        Err(RecordError::NoMemory) => (b'-', 1),
-    })
+    match read(alloc, record) {
+        Ok(built) => written(alloc, &built, record),
+        Err(error) => Ok(fault(&error)),
+    }
+}
+
+/// What a case's record answers, and what the case wants.
+fn answers(alloc: Global, kind: u8, text: &[u8]) -> Result<((u8, u64), (u8, u64)), AllocError> {
+    let marked = decoded(alloc, text)?;
+    let found = answer(alloc, marked.bytes.as_slice())?;
+    Ok((found, (kind, marked.place as u64)))
 }
 
 #[test]
 fn records_by_the_rules(rt: HostRuntime) -> Result<(), Fail> {
-    let alloc = rt.alloc();
     for case in CASES.split(|b| *b == b'|') {
-        let case = case.trim_ascii();
-        let marked = decoded(alloc, &case[1..])?;
-        let (kind, place) = answer(alloc, marked.bytes.as_slice())?;
-        assert_eq!(rt; kind, case[0]);
-        assert_eq!(rt; place, marked.place as u64);
+        let [kind, text @ ..] = case.trim_ascii() else {
+            return Err("a case".into());
+        };
+        let (found, want) = answers(rt.alloc(), *kind, text)?;
+        assert!(rt; found == want);
     }
     Ok(())
 }
