@@ -47,6 +47,25 @@ fn first(alloc: Global, call: CallKind, wanted: CallKind) -> Result<Fails, test:
     Ok(fails)
 }
 
+/// The status of a run.
+fn status_of(
+    alloc: Global,
+    words: &[Text],
+    tree: &mut MemTree,
+    store: &mut MemStore,
+    room: &mut MemRoom,
+    out: &mut MemSink,
+) -> u8 {
+    bulk_alone(alloc, words, tree, store, room, out).status
+}
+
+/// The length of the record in a store, or 0.
+fn record_length(alloc: Global, store: &mut MemStore) -> Result<usize, test::Fail> {
+    let name = Text::from_bytes(alloc, b"x-1.0.pkg".as_slice())?;
+    let record = store.get(alloc, &name, 1_000_000)?;
+    Ok(record.map_or(0, |bytes| bytes.len()))
+}
+
 /// The status, the text and the length of the stored record of a run in which the first call of one kind fails.
 fn ran(alloc: Global, vars: &str, fails: CallKind) -> Result<(u8, Vec<u8>, usize), test::Fail> {
     let words = command(alloc)?;
@@ -58,7 +77,7 @@ fn ran(alloc: Global, vars: &str, fails: CallKind) -> Result<(u8, Vec<u8>, usize
     let mut store = MemStore::new(alloc, Sequence::new(alloc), Sequence::new(alloc))?;
     let mut room = MemRoom::new(alloc, first(alloc, fails, CallKind::Clear)?)?;
     let mut out = MemSink::new(alloc, first(alloc, fails, CallKind::Write)?)?;
-    let closed = bulk_alone(
+    let status = status_of(
         alloc,
         words.as_slice(),
         &mut tree,
@@ -66,15 +85,8 @@ fn ran(alloc: Global, vars: &str, fails: CallKind) -> Result<(u8, Vec<u8>, usize
         &mut room,
         &mut out,
     );
-    let name = Text::from_bytes(alloc, b"x-1.0.pkg".as_slice())?;
-    let record = store
-        .get(alloc, &name, 1_000_000)?
-        .map_or(0, |bytes| bytes.len());
-    Ok((
-        closed.status,
-        Vec::from_slice(alloc, out.written())?,
-        record,
-    ))
+    let record = record_length(alloc, &mut store)?;
+    Ok((status, Vec::from_slice(alloc, out.written())?, record))
 }
 
 fn shows(

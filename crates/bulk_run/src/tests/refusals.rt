@@ -1,5 +1,5 @@
 // What is printed for each form of a description, each file that is not served yet, and two faults at once.
-use super::super::*;
+use super::status_of;
 use bulk_base::{Bytes, FileItem, Files, Path, Sequence, Text, Texts};
 use outside::{Item, Items, MemRoom, MemSink, MemStore, MemTree};
 use std::alloc::{AllocError, Global};
@@ -209,7 +209,7 @@ fn printed(alloc: Global, words: &[Text], tree: MemTree, store: MemStore) -> Res
     let mut store = store;
     let mut room = MemRoom::new(alloc, Sequence::new(alloc))?;
     let mut out = MemSink::new(alloc, Sequence::new(alloc))?;
-    bulk_alone(alloc, words, &mut tree, &mut store, &mut room, &mut out);
+    status_of(alloc, words, &mut tree, &mut store, &mut room, &mut out);
     Ok(Vec::from_slice(alloc, out.written())?)
 }
 
