@@ -182,7 +182,14 @@ fn fault(error: &RecordError) -> (u8, u64) {
 /// `=` where a package's record is these bytes.
 fn written(alloc: Global, built: &Package, record: &[u8]) -> Result<(u8, u64), AllocError> {
     let again = write(alloc, built)?;
-    Ok((if again.as_slice() == record { b'=' } else { b'-' }, 0))
+    Ok((
+        if again.as_slice() == record {
+            b'='
+        } else {
+            b'-'
+        },
+        0,
+    ))
 }
 
 /// What a record answers: a case's first byte, and the place of BadField.
