@@ -1,14 +1,13 @@
 -- What holds of every order, of the longest chains and of what is installed.
-use Rattle.std.proofs.Common.{◌≡◌, ℕ, zero, suc, ◌+◌, ◌<◌, ◌≤◌, Bool, true, false, List, [], ◌∷◌, length, get_or, take, refl, ap, sym, subst, ◌∙◌, arith, cond, inl, inr, ◌⊎◌}
-use Rattle.std.specs.Prelude.{◌==◌, ◌||◌, ◌&&◌, filter, map}
+use Rattle.std.proofs.Common.{◌≡◌, ℕ, suc, ◌<◌, ◌≤◌, Bool, true, false, List, [], ◌∷◌, length, get_or, take, refl, ap, sym, subst, ◌∙◌, arith, cond, inl, inr, ◌⊎◌}
+use Rattle.std.specs.Prelude.{◌==◌, ◌||◌, filter}
 use Rattle.std.specs.List.{All}
-use Rattle.std.proofs.lemmas.Bool.{and_parts, and_from, or_right, cases_lt, eq-eqb, or_cases, or_left}
-use Rattle.std.proofs.lemmas.List.{length-take, get_or-take, take_all, length-take-le, take-take}
+use Rattle.std.proofs.lemmas.Bool.{and_parts, and_from, or_right, cases_lt}
+use Rattle.std.proofs.lemmas.List.{get_or-take, take_all, length-take-le, take-take}
 use Rattle.bulk_model.specs.declared.plan.Edge.{Edge}
 use Rattle.bulk_model.specs.PlanView.{PlanView, nodes, edges_from, depends}
 use Rattle.bulk_model.specs.Installs.{is_needed_later, later_depends, is_installed, installs}
-use Rattle.dep_graph.specs.Graphs.{has, targets, edges_at, depends_at}
-use Rattle.dep_graph.specs.Reached.{is_reached, IsClosed}
+use Rattle.dep_graph.specs.Graphs.{has, targets, depends_at}
 use Rattle.dep_graph.specs.Order.{IsInOrder}
 use Rattle.dep_graph.specs.Chains.{is_chain_above, IsLongest}
 use Rattle.dep_graph.proofs.Members.{Place, place_of, has-filter, all_has, all_from_has}
