@@ -12,3 +12,4 @@ pub mod Turns
 pub mod Ordered
 pub mod LongChains
 pub mod OrderLaws
+pub mod ThreePorts

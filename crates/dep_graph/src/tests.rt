@@ -1,12 +1,14 @@
 // Graphs with their answers, worked out by a plain program that follows the definitions in rounds.
-ghost use Rattle.std.specs.Prelude.{◌≡◌, ◌<◌, ◌≤◌, ◌^◌, length, IfOk, OnOk};
+ghost use Rattle.std.specs.Prelude.{◌≡◌, ◌<◌, ◌≤◌, ◌^◌, [], ◌∷◌, length, map, codes, None, IfOk, OnOk};
 ghost use Rattle.std.specs.List.{All};
+ghost use Rattle.bulk_base.specs.Names.{IsPackageName};
+ghost use Rattle.bulk_model.specs.declared.depend.DepKind.TheVariants.{Run, Build as ForBuild};
 ghost use Rattle.bulk_model.specs.declared.plan.Edge.{Edge};
 ghost use Rattle.dep_graph.specs.Graphs.{IsWithin};
 
 use super::*;
-use bulk_base::Sequence;
-use bulk_model::{DepKind, Edge, Edges};
+use bulk_base::{NoMemory, Sequence, Text};
+use bulk_model::{DepKind, Edge, EdgeLists, Edges, Job, Jobs, MaybeTexts, Plan, Steps};
 use std::alloc::{AllocError, Global};
 use std::test::Fail;
 
@@ -241,5 +243,92 @@ fn a_chain_of_6000(rt: HostRuntime) -> Result<(), Fail> {
     let order = graph.order(alloc)?.unwrap_or(Sequence::new(alloc));
     assert_eq!(rt; order.len(), 6_000);
     assert_eq!(rt; graph.edges().len(), 6_000);
+    Ok(())
+}
+
+/// A port with nothing to do.
+fn job(alloc: Global, name: Text) -> Result<Job, NoMemory>
+    requires { IsPackageName name }
+    ensures { IfOk result (λ job. job.name ≡ name) }
+{
+    Ok(Job {
+        name,
+        origin: Text::of(alloc, b"a/x")?,
+        flavor: None,
+        options: Sequence::new(alloc),
+        depends: Sequence::new(alloc),
+        steps: Steps {
+            extract: Sequence::new(alloc),
+            patch: Sequence::new(alloc),
+            configure: Sequence::new(alloc),
+            build: Sequence::new(alloc),
+            stage: Sequence::new(alloc),
+        },
+        files: Sequence::new(alloc),
+    })
+}
+
+/// Three of them.
+fn three_jobs(alloc: Global) -> Result<Jobs, NoMemory>
+    ensures { IfOk result (λ jobs. map (λ job. job.name) jobs ≡ codes "a-1" ∷ codes "b-1" ∷ codes "c-1" ∷ []) }
+{
+    let mut jobs = Sequence::new(alloc);
+    jobs.push(job(alloc, Text::of(alloc, b"a-1")?)?)?;
+    jobs.push(job(alloc, Text::of(alloc, b"b-1")?)?)?;
+    jobs.push(job(alloc, Text::of(alloc, b"c-1")?)?)?;
+    Ok(jobs)
+}
+
+/// One edge.
+fn one_edge(alloc: Global, kind: DepKind, to: u32) -> Result<Edges, NoMemory>
+    ensures { IfOk result (λ edges. edges ≡ record { kind = kind; to = to } ∷ []) }
+{
+    let mut edges = Sequence::new(alloc);
+    edges.push(Edge { kind, to })?;
+    Ok(edges)
+}
+
+/// The first is needed by the second where that is used, and the second by the third for its build.
+fn edges_of_three(alloc: Global) -> Result<EdgeLists, NoMemory>
+    ensures { IfOk result (λ lists. lists ≡ [] ∷ (record { kind = Run; to = 0 } ∷ []) ∷ (record { kind = ForBuild; to = 1 } ∷ []) ∷ []) }
+{
+    let mut lists = Sequence::new(alloc);
+    lists.push(Sequence::new(alloc))?;
+    lists.push(one_edge(alloc, DepKind::Run, 0)?)?;
+    lists.push(one_edge(alloc, DepKind::Build, 1)?)?;
+    Ok(lists)
+}
+
+/// Nothing is ignored.
+fn three_kept(alloc: Global) -> Result<MaybeTexts, NoMemory>
+    ensures { IfOk result (λ reasons. reasons ≡ None ∷ None ∷ None ∷ []) }
+{
+    let mut reasons = Sequence::new(alloc);
+    reasons.push(None)?;
+    reasons.push(None)?;
+    reasons.push(None)?;
+    Ok(reasons)
+}
+
+/// The plan of these.
+fn plan_of_three(alloc: Global) -> Result<Plan, NoMemory>
+    ensures { IfOk result (λ plan. length plan.jobs ≡ 3) }
+{
+    Ok(Plan {
+        jobs: three_jobs(alloc)?,
+        edges: edges_of_three(alloc)?,
+        ignored: three_kept(alloc)?,
+        wanted: Sequence::new(alloc),
+        base: Sequence::new(alloc),
+    })
+}
+
+#[test]
+fn what_a_build_installs(rt: HostRuntime) -> Result<(), Fail> {
+    let alloc = rt.alloc();
+    laws();
+    let plan = plan_of_three(alloc)?;
+    assert!(rt; installs(alloc, &plan, 2)?.as_slice() == [0, 1].as_slice());
+    assert!(rt; installs(alloc, &plan, 0)?.is_empty());
     Ok(())
 }
