@@ -35,5 +35,5 @@ steps_for values flavor on = record {
   patch = commands_for values flavor (codes "DO_PATCH");
   configure = configure_for values flavor on;
   build = commands_for values flavor (codes "DO_BUILD");
-  stage = commands_for values flavor (codes "DO_STAGE")
+  stage = commands_for values flavor (codes "DO_STAGE");
 }

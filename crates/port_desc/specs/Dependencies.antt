@@ -35,11 +35,18 @@ variables = Some Pkg ∷ Some Fetch ∷ Some Extract ∷ Some Patch ∷ Some Bui
 abbrev pub words_for : Values → Option (List ℕ) → List (List ℕ) → List ℕ → List (List ℕ)
 words_for values flavor on name = words_in values name ++ words_by_options values on name ++ words_by_flavor values flavor name
 
--- the target that the parts of a word between `:` name: of two parts, the first not empty, the second a node; a third part
--- is a target of make, which is refused by name
+-- the target that a word of two parts names: the second, where that is a node and the first is not empty
+abbrev pub target_behind : List ℕ → List ℕ → List ℕ → Result (List ℕ) DescError
+target_behind word what node = if is_filled what && is_node node then Ok node else Err (BadDepend word)
+
+-- how a word of three parts is refused: where the second is a node, the third is a target of make
+abbrev pub refusal_of_three : List ℕ → List ℕ → DescError
+refusal_of_three word node = if is_node node then Target word else BadDepend word
+
+-- the target that the parts of a word between `:` name
 abbrev pub target_in : List ℕ → List (List ℕ) → Result (List ℕ) DescError
-target_in word (what ∷ node ∷ []) = if is_filled what && is_node node then Ok node else Err (BadDepend word)
-target_in word (what ∷ node ∷ target ∷ []) = if is_node node then Err (Target word) else Err (BadDepend word)
+target_in word (what ∷ node ∷ []) = target_behind word what node
+target_in word (what ∷ node ∷ target ∷ []) = Err (refusal_of_three word node)
 target_in word parts = Err (BadDepend word)
 
 unfoldable pub target_of : List ℕ → Result (List ℕ) DescError

@@ -23,7 +23,7 @@ desc_with values flavor on name entries = record {
   entries = entries;
   ignore = reason_for values flavor [] (codes "IGNORE");
   forbidden = reason_for values flavor (codes "is forbidden: ") (codes "FORBIDDEN");
-  broken = reason_for values flavor (codes "is marked as broken: ") (codes "BROKEN")
+  broken = reason_for values flavor (codes "is marked as broken: ") (codes "BROKEN");
 }
 
 -- the node of a flavor with these options, or the first refusal: the name's checks come before those of the entries

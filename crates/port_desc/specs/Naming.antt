@@ -30,7 +30,7 @@ parts_for values flavor = record {
   suffix = unwrap_or (value_for values flavor (codes "PKGNAMESUFFIX")) [];
   version = unwrap_or (value_of values (codes "PORTVERSION")) [];
   revision = value_of values (codes "PORTREVISION");
-  epoch = value_of values (codes "PORTEPOCH")
+  epoch = value_of values (codes "PORTEPOCH");
 }
 
 -- the variable that a part is the value of, also where a flavor's helper stands for it; a package's name has neither an

@@ -1,5 +1,5 @@
 // The commands of a port's phases.
-ghost use Rattle.std.specs.Prelude.{◌≡◌, [], IfOk, IsTrue};
+ghost use Rattle.std.specs.Prelude.{◌≡◌, [], ◌∷◌, ◌++◌, filter, IfOk, OnOk, IsTrue};
 ghost use Rattle.std.specs.Option.{option_copied, unwrap_or};
 ghost use Rattle.std.specs.FinMap as map;
 ghost use Rattle.bulk_base.specs.Text.{is_plain_text};
@@ -11,15 +11,23 @@ use bulk_model::{Command, Commands, Steps};
 use port_vars::Vars;
 use std::alloc::Global;
 
+/// Puts the command of some words at the end of a list, where there is a word.
+fn push_command(alloc: Global, words: &[Text], found: &mut Commands) -> Result<(), NoMemory>
+    ensures { OnOk result (found.new ≡ found.old ++ filter commands.is_command (words.now ∷ [])) }
+{
+    let Some(command) = Command::new(copies(alloc, words)?) else {
+        return Ok(());
+    };
+    found.push(command)
+}
+
 /// The commands in words: what stands between the words `;`, without empty ones.
 fn commands_of(alloc: Global, words: &[Text]) -> Result<Commands, NoMemory>
     ensures { IfOk result (λ found. found ≡ commands.commands_of words.now) }
 {
     let mut found = Sequence::new(alloc);
     for piece in words.split(|word| word.is(b";")) {
-        if let Some(command) = Command::new(copies(alloc, piece)?) {
-            found.push(command)?;
-        }
+        push_command(alloc, piece, &mut found)?;
     }
     Ok(found)
 }
@@ -32,7 +40,7 @@ fn commands_for(
     name: &[u8],
 ) -> Result<Commands, NoMemory>
     requires { IsTrue (is_plain_text name.now) }
-    ensures { IfOk result (λ found. found ≡ commands.commands_for (map.get vars.now) (option_copied flavor) name.now) }
+    ensures { IfOk result (λ found. found ≡ commands.commands_for (map.get vars.now) (option_copied flavor.entry) name.now) }
 {
     let words = words_of_value(alloc, value_for(alloc, vars, flavor, name)?)?;
     commands_of(alloc, words.as_slice())
@@ -69,7 +77,7 @@ fn configure_for(
     flavor: Option<&Text>,
     on: &[Text],
 ) -> Result<Commands, NoMemory>
-    ensures { IfOk result (λ found. found ≡ commands.configure_for (map.get vars.now) (option_copied flavor) on.now) }
+    ensures { IfOk result (λ found. found ≡ commands.configure_for (map.get vars.now) (option_copied flavor.entry) on.now) }
 {
     let all = commands_for(alloc, vars, flavor, b"DO_CONFIGURE")?;
     let mut words = Vec::new(alloc);
@@ -85,7 +93,7 @@ pub(crate) fn steps_for(
     flavor: Option<&Text>,
     on: &[Text],
 ) -> Result<Steps, NoMemory>
-    ensures { IfOk result (λ steps. steps ≡ commands.steps_for (map.get vars.now) (option_copied flavor) on.now) }
+    ensures { IfOk result (λ steps. steps ≡ commands.steps_for (map.get vars.now) (option_copied flavor.entry) on.now) }
 {
     Ok(Steps {
         extract: commands_for(alloc, vars, flavor, b"DO_EXTRACT")?,

@@ -1,10 +1,11 @@
 // What a port depends on.
-ghost use Rattle.std.specs.Prelude.{◌≡◌, ◌≢◌, ◌++◌, ◌∷◌, List, Option, IfOk, IfErr, OnOk, IsTrue, map as map_list};
+ghost use Rattle.std.specs.Prelude.{◌≡◌, ◌≢◌, ◌++◌, ◌∷◌, [], ℕ, List, Option, if◌then◌else◌, IfOk, IfErr, OnOk, IsTrue, map as map_list};
 ghost use Rattle.std.specs.Option.{option_copied};
 ghost use Rattle.std.specs.FinMap as map;
 ghost use Rattle.bulk_base.specs.Text.{is_plain_text};
 ghost use Rattle.bulk_model.specs.declared.depend.DepKind.{DepKind};
 ghost use Rattle.port_vars.specs.Assignment.{mapped};
+ghost use Rattle.port_name.specs.Sets.{is_among};
 ghost use Rattle.port_desc.specs.Dependencies as dependencies;
 
 use crate::entry::{Entries, Entry};
@@ -58,7 +59,7 @@ fn words_for(
     name: &[u8],
 ) -> Result<Vec<Text>, NoMemory>
     requires { IsTrue (is_plain_text name.now) }
-    ensures { IfOk result (λ words. words.items ≡ dependencies.words_for (map.get vars.now) (option_copied flavor) on.now name.now) }
+    ensures { IfOk result (λ words. words.items ≡ dependencies.words_for (map.get vars.now) (option_copied flavor.entry) on.now name.now) }
 {
     let mut found = Vec::new(alloc);
     push_words(alloc, vars, &Text::literal(alloc, name)?, &mut found)?;
@@ -87,14 +88,36 @@ fn with_target(alloc: Global, word: &Text) -> DescError
     }
 }
 
+/// The target that a word of two parts names.
+fn target_behind(alloc: Global, word: &Text, what: &[u8], node: &[u8]) -> Result<Text, DescError>
+    ensures ok { IfOk result (λ target. dependencies.target_behind word.now what.now node.now ≡ Ok target) }
+    ensures refused { IfErr result (λ e. e ≢ DescError.NoMemory → dependencies.target_behind word.now what.now node.now ≡ Err e) }
+{
+    if what.is_empty() || !is_node(node) {
+        return Err(bad_depend(alloc, word));
+    }
+    Ok(Text::literal(alloc, node)?)
+}
+
+/// The refusal of a word of three parts.
+fn refusal_of_three(alloc: Global, word: &Text, node: &[u8]) -> DescError
+    ensures { result ≢ DescError.NoMemory → result ≡ dependencies.refusal_of_three word.now node.now }
+{
+    if is_node(node) {
+        with_target(alloc, word)
+    } else {
+        bad_depend(alloc, word)
+    }
+}
+
 /// The target that the parts of a word between `:` name.
 fn target_in(alloc: Global, word: &Text, parts: &[&[u8]]) -> Result<Text, DescError>
     ensures ok { IfOk result (λ target. dependencies.target_in word.now (map_list (λ part. part.now) parts.now) ≡ Ok target) }
     ensures refused { IfErr result (λ e. e ≢ DescError.NoMemory → dependencies.target_in word.now (map_list (λ part. part.now) parts.now) ≡ Err e) }
 {
-    match parts {
-        [what, node] if !what.is_empty() && is_node(node) => Ok(Text::literal(alloc, node)?),
-        [_, node, _] if is_node(node) => Err(with_target(alloc, word)),
+    match parts.len() {
+        2 => target_behind(alloc, word, parts[0], parts[1]),
+        3 => Err(refusal_of_three(alloc, word, parts[1])),
         _ => Err(bad_depend(alloc, word)),
     }
 }
@@ -121,6 +144,24 @@ fn targets_of(alloc: Global, words: &[Text]) -> Result<Texts, DescError>
     Ok(targets)
 }
 
+/// Puts a text that was not seen before at the end of a list.
+fn keep(
+    alloc: Global,
+    text: &Text,
+    before: &mut Seen,
+    found: &mut Vec<Text>,
+) -> Result<(), NoMemory>
+    ensures seen { OnOk result ((other : List ℕ) → is_among before.new other ≡ is_among (before.old ++ text.now ∷ []) other) }
+    ensures kept { OnOk result (found.new.items ≡ (if is_among before.old text.now then found.old.items else found.old.items ++ text.now ∷ [])) }
+{
+    if before.has(text) {
+        return Ok(());
+    }
+    before.add(text.copy(alloc)?)?;
+    found.push(text.copy(alloc)?)?;
+    Ok(())
+}
+
 /// Each text once, where it first stands. O(log n) comparisons for each of the n texts.
 fn each_once(alloc: Global, texts: &[Text]) -> Result<Vec<Text>, NoMemory>
     ensures { IfOk result (λ found. found.items ≡ dependencies.each_once texts.now) }
@@ -128,10 +169,7 @@ fn each_once(alloc: Global, texts: &[Text]) -> Result<Vec<Text>, NoMemory>
     let mut before = Seen::new(alloc);
     let mut found = Vec::new(alloc);
     for text in texts {
-        if !before.has(text) {
-            before.add(text.copy(alloc)?)?;
-            found.push(text.copy(alloc)?)?;
-        }
+        keep(alloc, text, &mut before, &mut found)?;
     }
     Ok(found)
 }
@@ -164,10 +202,10 @@ fn take_variable(
     found: &mut Vec<Entry>,
 ) -> Result<(), DescError>
     ensures ok { OnOk result ((more : List (Option DepKind)) →
-        mapped (λ rest. found.old.items ++ rest) (dependencies.entries_among (map.get vars.now) (option_copied flavor) on.now (kind ∷ more))
-        ≡ mapped (λ rest. found.new.items ++ rest) (dependencies.entries_among (map.get vars.now) (option_copied flavor) on.now more)) }
+        mapped (λ rest. found.old.items ++ rest) (dependencies.entries_among (map.get vars.now) (option_copied flavor.entry) on.now (kind ∷ more))
+        ≡ mapped (λ rest. found.new.items ++ rest) (dependencies.entries_among (map.get vars.now) (option_copied flavor.entry) on.now more)) }
     ensures refused { IfErr result (λ e. e ≢ DescError.NoMemory → (more : List (Option DepKind)) →
-        dependencies.entries_among (map.get vars.now) (option_copied flavor) on.now (kind ∷ more) ≡ Err e) }
+        dependencies.entries_among (map.get vars.now) (option_copied flavor.entry) on.now (kind ∷ more) ≡ Err e) }
 {
     let words = words_for(alloc, vars, flavor, on, depends_variable(kind))?;
     let targets = targets_of(alloc, words.as_slice())?;
@@ -183,8 +221,8 @@ pub(crate) fn entries_of(
     flavor: Option<&Text>,
     on: &[Text],
 ) -> Result<Entries, DescError>
-    ensures ok { IfOk result (λ entries. dependencies.entries_of (map.get vars.now) (option_copied flavor) on.now ≡ Ok entries) }
-    ensures refused { IfErr result (λ e. e ≢ DescError.NoMemory → dependencies.entries_of (map.get vars.now) (option_copied flavor) on.now ≡ Err e) }
+    ensures ok { IfOk result (λ entries. dependencies.entries_of (map.get vars.now) (option_copied flavor.entry) on.now ≡ Ok entries) }
+    ensures refused { IfErr result (λ e. e ≢ DescError.NoMemory → dependencies.entries_of (map.get vars.now) (option_copied flavor.entry) on.now ≡ Err e) }
 {
     let mut found = Vec::new(alloc);
     for kind in VARIABLES.as_slice() {

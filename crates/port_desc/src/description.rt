@@ -45,7 +45,7 @@ fn desc_with(
     name: Text,
     entries: Entries,
 ) -> Result<Desc, NoMemory>
-    ensures { IfOk result (λ desc. desc ≡ desc_with (map.get vars.now) (option_copied flavor) on.now name entries) }
+    ensures { IfOk result (λ desc. desc ≡ desc_with (map.get vars.now) (option_copied flavor.entry) on.now name entries) }
 {
     Ok(Desc {
         name,
@@ -74,9 +74,9 @@ pub fn describe(
     flavor: Option<&Text>,
     options: &Switches,
 ) -> Result<Desc, DescError>
-    ensures ok { IfOk result (λ desc. described (map.get vars.now) (option_copied flavor) options.now ≡ Ok desc) }
+    ensures ok { IfOk result (λ desc. described (map.get vars.now) (option_copied flavor.entry) options.now ≡ Ok desc) }
     ensures name { IfOk result (λ desc. IsPackageName desc.name) }
-    ensures refused { IfErr result (λ e. e ≢ DescError.NoMemory → described (map.get vars.now) (option_copied flavor) options.now ≡ Err e) }
+    ensures refused { IfErr result (λ e. e ≢ DescError.NoMemory → described (map.get vars.now) (option_copied flavor.entry) options.now ≡ Err e) }
 {
     let name = name_for(alloc, vars, flavor)?;
     let on = names_on(alloc, options.as_slice())?;

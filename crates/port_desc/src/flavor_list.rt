@@ -32,11 +32,7 @@ fn is_taken(before: &Seen, word: &Text) -> bool
 }
 
 /// A copy of a word that may stand behind some flavors.
-fn flavor_behind(
-    alloc: Global,
-    before: &Seen,
-    word: &Text,
-) -> Result<Option<Text>, NoMemory>
+fn flavor_behind(alloc: Global, before: &Seen, word: &Text) -> Result<Option<Text>, NoMemory>
     ensures { IfOk result (λ name. name ≡ (if is_bad_flavor before.now word.now then None else Some word.now)) }
 {
     if is_taken(before, word) {
@@ -67,6 +63,7 @@ fn checked(alloc: Global, listed: Texts) -> Result<Texts, DescError>
 ///
 /// BadFlavor exactly where a word of FLAVORS is no flavor, is `all`, or stands there already, with the first such word.
 /// NoMemory for want of memory alone. O(log n) comparisons for each of the n words.
+#[tactic(auto, unfolding(crate::specs::Flavors::flavors_of))]
 pub fn flavors(alloc: Global, vars: &Vars) -> Result<Texts, DescError>
     ensures ok { IfOk result (λ flavors. flavors_of (map.get vars.now) ≡ Ok flavors) }
     ensures bad_flavor { IfErr result (λ e. e ≢ DescError.NoMemory → flavors_of (map.get vars.now) ≡ Err e) }

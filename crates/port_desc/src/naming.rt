@@ -4,6 +4,7 @@ ghost use Rattle.std.specs.Option.{option_copied, unwrap_or};
 ghost use Rattle.std.specs.FinMap as map;
 ghost use Rattle.bulk_base.specs.Text.{is_plain_text};
 ghost use Rattle.bulk_base.specs.Names.{IsPackageName};
+ghost use Rattle.port_desc.specs.Values.{value_of, value_for as value_for_flavor};
 ghost use Rattle.port_desc.specs.Naming as naming;
 
 use crate::fault::DescError;
@@ -33,7 +34,7 @@ pub fn missing(alloc: Global, vars: &Vars) -> Result<Option<Text>, NoMemory>
 
 /// A copy of a value; an empty text where there is none.
 fn copy_or_empty(alloc: Global, value: Option<&Text>) -> Result<Text, NoMemory>
-    ensures { IfOk result (λ text. text ≡ unwrap_or (option_copied value) []) }
+    ensures { IfOk result (λ text. text ≡ unwrap_or (option_copied value.entry) []) }
 {
     match value {
         Some(text) => text.copy(alloc),
@@ -43,7 +44,7 @@ fn copy_or_empty(alloc: Global, value: Option<&Text>) -> Result<Text, NoMemory>
 
 /// A copy of a value, if there is one.
 fn copy_of(alloc: Global, value: Option<&Text>) -> Result<Option<Text>, NoMemory>
-    ensures { IfOk result (λ text. text ≡ option_copied value) }
+    ensures { IfOk result (λ text. text ≡ option_copied value.entry) }
 {
     match value {
         Some(text) => Ok(Some(text.copy(alloc)?)),
@@ -51,18 +52,47 @@ fn copy_of(alloc: Global, value: Option<&Text>) -> Result<Option<Text>, NoMemory
     }
 }
 
+/// A part of the name that a flavor's helper may stand for.
+fn part_for(
+    alloc: Global,
+    vars: &Vars,
+    flavor: Option<&Text>,
+    name: &[u8],
+) -> Result<Text, NoMemory>
+    requires { IsTrue (is_plain_text name.now) }
+    ensures { IfOk result (λ text. text ≡ unwrap_or (value_for_flavor (map.get vars.now) (option_copied flavor.entry) name.now) []) }
+{
+    copy_or_empty(alloc, value_for(alloc, vars, flavor, name)?)
+}
+
+/// A part of the name that every port sets.
+fn part_of(alloc: Global, vars: &Vars, name: &[u8]) -> Result<Text, NoMemory>
+    requires { IsTrue (is_plain_text name.now) }
+    ensures { IfOk result (λ text. text ≡ unwrap_or (value_of (map.get vars.now) name.now) []) }
+{
+    copy_or_empty(alloc, value_named(alloc, vars, name)?)
+}
+
+/// A part of the name that a port may set.
+fn counter_of(alloc: Global, vars: &Vars, name: &[u8]) -> Result<Option<Text>, NoMemory>
+    requires { IsTrue (is_plain_text name.now) }
+    ensures { IfOk result (λ text. text ≡ value_of (map.get vars.now) name.now) }
+{
+    copy_of(alloc, value_named(alloc, vars, name)?)
+}
+
 /// The parts of the package's name.
 #[tactic(auto, unfolding(crate::specs::Naming::parts_for))]
 fn parts_for(alloc: Global, vars: &Vars, flavor: Option<&Text>) -> Result<NameParts, NoMemory>
-    ensures { IfOk result (λ parts. parts ≡ naming.parts_for (map.get vars.now) (option_copied flavor)) }
+    ensures { IfOk result (λ parts. parts ≡ naming.parts_for (map.get vars.now) (option_copied flavor.entry)) }
 {
     Ok(NameParts {
-        prefix: copy_or_empty(alloc, value_for(alloc, vars, flavor, b"PKGNAMEPREFIX")?)?,
-        portname: copy_or_empty(alloc, value_named(alloc, vars, b"PORTNAME")?)?,
-        suffix: copy_or_empty(alloc, value_for(alloc, vars, flavor, b"PKGNAMESUFFIX")?)?,
-        version: copy_or_empty(alloc, value_named(alloc, vars, b"PORTVERSION")?)?,
-        revision: copy_of(alloc, value_named(alloc, vars, b"PORTREVISION")?)?,
-        epoch: copy_of(alloc, value_named(alloc, vars, b"PORTEPOCH")?)?,
+        prefix: part_for(alloc, vars, flavor, b"PKGNAMEPREFIX")?,
+        portname: part_of(alloc, vars, b"PORTNAME")?,
+        suffix: part_for(alloc, vars, flavor, b"PKGNAMESUFFIX")?,
+        version: part_of(alloc, vars, b"PORTVERSION")?,
+        revision: counter_of(alloc, vars, b"PORTREVISION")?,
+        epoch: counter_of(alloc, vars, b"PORTEPOCH")?,
     })
 }
 
@@ -104,15 +134,24 @@ fn named(alloc: Global, parts: &NameParts) -> Result<Text, DescError>
     }
 }
 
+/// The name of the package of a port that sets what it has to.
+fn named_for(alloc: Global, vars: &Vars, flavor: Option<&Text>) -> Result<Text, DescError>
+    ensures ok { IfOk result (λ name. naming.named (naming.parts_for (map.get vars.now) (option_copied flavor.entry)) ≡ Ok name) }
+    ensures form { IfOk result IsPackageName }
+    ensures refused { IfErr result (λ e. e ≢ DescError.NoMemory → naming.named (naming.parts_for (map.get vars.now) (option_copied flavor.entry)) ≡ Err e) }
+{
+    let parts = parts_for(alloc, vars, flavor)?;
+    named(alloc, &parts)
+}
+
 /// The name of the package.
 pub(crate) fn name_for(alloc: Global, vars: &Vars, flavor: Option<&Text>) -> Result<Text, DescError>
-    ensures ok { IfOk result (λ name. naming.name_for (map.get vars.now) (option_copied flavor) ≡ Ok name) }
+    ensures ok { IfOk result (λ name. naming.name_for (map.get vars.now) (option_copied flavor.entry) ≡ Ok name) }
     ensures form { IfOk result IsPackageName }
-    ensures refused { IfErr result (λ e. e ≢ DescError.NoMemory → naming.name_for (map.get vars.now) (option_copied flavor) ≡ Err e) }
+    ensures refused { IfErr result (λ e. e ≢ DescError.NoMemory → naming.name_for (map.get vars.now) (option_copied flavor.entry) ≡ Err e) }
 {
     if let Some(name) = missing(alloc, vars)? {
         return Err(DescError::Missing { name });
     }
-    let parts = parts_for(alloc, vars, flavor)?;
-    named(alloc, &parts)
+    named_for(alloc, vars, flavor)
 }

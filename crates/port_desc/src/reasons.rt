@@ -20,7 +20,7 @@ pub(crate) fn reason_for(
 ) -> Result<Option<Text>, NoMemory>
     requires words { IsTrue (is_plain_text words.now) }
     requires name { IsTrue (is_plain_text name.now) }
-    ensures { IfOk result (λ text. text ≡ reasons.reason_for (map.get vars.now) (option_copied flavor) words.now name.now) }
+    ensures { IfOk result (λ text. text ≡ reasons.reason_for (map.get vars.now) (option_copied flavor.entry) words.now name.now) }
 {
     match value_for(alloc, vars, flavor, name)? {
         Some(value) => Ok(Some(joined(alloc, words, value.bytes())?)),

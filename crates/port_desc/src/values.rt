@@ -72,7 +72,7 @@ pub(crate) fn value_for<'a>(
     name: &[u8],
 ) -> Result<Option<&'a Text>, NoMemory>
     requires { IsTrue (is_plain_text name.now) }
-    ensures { IfOk result (λ value. option_copied value ≡ values_of.value_for (map.get vars.now) (option_copied flavor) name.now) }
+    ensures { IfOk result (λ value. option_copied value ≡ values_of.value_for (map.get vars.now) (option_copied flavor.entry) name.now) }
 {
     let Some(flavor) = flavor else {
         return value_named(alloc, vars, name);
@@ -85,7 +85,7 @@ pub(crate) fn value_for<'a>(
 
 /// The words of a value.
 pub(crate) fn words_of_value(alloc: Global, value: Option<&Text>) -> Result<Texts, NoMemory>
-    ensures { IfOk result (λ words. words ≡ values_of.words_of_value (option_copied value)) }
+    ensures { IfOk result (λ words. words ≡ values_of.words_of_value (option_copied value.entry)) }
 {
     match value {
         Some(text) => words(alloc, text),
@@ -133,7 +133,7 @@ pub(crate) fn push_words_by_flavor(
     found: &mut Vec<Text>,
 ) -> Result<(), NoMemory>
     requires { IsTrue (is_plain_text name.now) }
-    ensures { OnOk result (found.new.items ≡ found.old.items ++ values_of.words_by_flavor (map.get vars.now) (option_copied flavor) name.now) }
+    ensures { OnOk result (found.new.items ≡ found.old.items ++ values_of.words_by_flavor (map.get vars.now) (option_copied flavor.entry) name.now) }
 {
     let Some(flavor) = flavor else {
         return Ok(());
