@@ -32,3 +32,7 @@ module _ (values : Values) (flavor : Option (List ℕ)) (options : List Switch) 
 pub desc_with-name : (values : Values) (flavor : Option (List ℕ)) (on : List (List ℕ)) (name : List ℕ) (entries : List Entry) → (desc_with values flavor on name entries).name ≡ name
 unfolding desc_with
 desc_with-name values flavor on name entries = refl
+
+pub desc_with-entries : (values : Values) (flavor : Option (List ℕ)) (on : List (List ℕ)) (name : List ℕ) (entries : List Entry) → (desc_with values flavor on name entries).entries ≡ entries
+unfolding desc_with
+desc_with-entries values flavor on name entries = refl

@@ -25,3 +25,9 @@ then_ok (Err e) f = refl
 pub mapped_alike : {A B E : Type 0} (f g : A → B) (r : Result A E) → ((a : A) → f a ≡ g a) → mapped f r ≡ mapped g r
 mapped_alike f g (Ok a) same = ap Ok (same a)
 mapped_alike f g (Err e) same = refl
+
+pub same_ok : {A E : Type 0} (a b : A) → (let r : Result A E = Ok a in r) ≡ Ok b → a ≡ b
+same_ok a b h = cc
+
+pub no_err : {A E : Type 0} (e : E) (a : A) → (let r : Result A E = Err e in r) ≡ Ok a → ⊥
+no_err e a h = cc

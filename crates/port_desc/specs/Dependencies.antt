@@ -1,10 +1,12 @@
 -- What a port depends on (Porter's Handbook, "Dependencies"; docs/FORMATS.md, "A port's description").
-use Rattle.std.specs.Prelude.{ℕ, Bool, not, nat_le, ◌==◌, ◌&&◌, List, [], ◌∷◌, ◌++◌, length, map, filter, bytes_eq, codes, if◌then◌else◌}
+use Rattle.std.specs.Prelude.{ℕ, Bool, not, nat_le, ◌≤◌, ◌==◌, ◌&&◌, List, [], ◌∷◌, ◌++◌, length, map, filter, bytes_eq, codes, if◌then◌else◌}
 use Rattle.std.specs.declared.option.Option.{Option}
 use Rattle.std.specs.declared.option.Option.TheVariants.{None, Some}
 use Rattle.std.specs.declared.result.Result.{Result}
 use Rattle.std.specs.declared.result.Result.TheVariants.{Ok, Err}
-use Rattle.std.specs.List.{slice_split}
+use Rattle.std.specs.List.{slice_split, AllByRecursion, IsDistinct}
+use Rattle.bulk_base.specs.Names.{IsNode}
+use Rattle.bulk_model.specs.Facts.{kind_number}
 use Rattle.bulk_base.specs.Words.{is_filled}
 use Rattle.bulk_model.specs.declared.depend.DepKind.{DepKind}
 use Rattle.bulk_model.specs.declared.depend.DepKind.TheVariants.{Pkg, Fetch, Extract, Patch, Build, Lib, Run}
@@ -77,6 +79,16 @@ entries_among values flavor on (kind ∷ more) = do
   targets ← targets_of (words_for values flavor on (depends_variable kind))
   entries ← entries_among values flavor on more
   Ok (entries_with kind targets ++ entries)
+
+-- two entries of one kind with one target
+abbrev pub is_same : Entry → Entry → Bool
+is_same a b = (kind_number a.kind == kind_number b.kind) && bytes_eq a.target b.target
+
+-- what holds of every port's entries: each names a node, none comes twice, and there are at most 256
+pub record AreEntries (entries : List Entry) : Type 0 where
+  pub nodes : AllByRecursion (λ entry. IsNode entry.target) entries
+  pub once : IsDistinct is_same entries
+  pub few : length entries ≤ 256
 
 -- at most 256 entries
 abbrev pub few : List Entry → Result (List Entry) DescError

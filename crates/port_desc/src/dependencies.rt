@@ -222,6 +222,7 @@ pub(crate) fn entries_of(
     on: &[Text],
 ) -> Result<Entries, DescError>
     ensures ok { IfOk result (λ entries. dependencies.entries_of (map.get vars.now) (option_copied flavor.entry) on.now ≡ Ok entries) }
+    ensures sound { IfOk result dependencies.AreEntries }
     ensures refused { IfErr result (λ e. e ≢ DescError.NoMemory → dependencies.entries_of (map.get vars.now) (option_copied flavor.entry) on.now ≡ Err e) }
 {
     let mut found = Vec::new(alloc);

@@ -3,7 +3,7 @@ ghost use Rattle.std.specs.Prelude.{◌≡◌, ◌≢◌, IfOk, IfErr};
 ghost use Rattle.std.specs.Option.{option_copied};
 ghost use Rattle.std.specs.FinMap as map;
 ghost use Rattle.bulk_base.specs.Names.{IsPackageName};
-ghost use Rattle.port_desc.specs.Values as values_of;
+ghost use Rattle.port_desc.specs.Dependencies.{AreEntries};
 ghost use Rattle.port_desc.specs.Description.{desc_with, described};
 
 use crate::commands::steps_for;
@@ -76,6 +76,7 @@ pub fn describe(
 ) -> Result<Desc, DescError>
     ensures ok { IfOk result (λ desc. described (map.get vars.now) (option_copied flavor.entry) options.now ≡ Ok desc) }
     ensures name { IfOk result (λ desc. IsPackageName desc.name) }
+    ensures entries { IfOk result (λ desc. AreEntries desc.entries) }
     ensures refused { IfErr result (λ e. e ≢ DescError.NoMemory → described (map.get vars.now) (option_copied flavor.entry) options.now ≡ Err e) }
 {
     let name = name_for(alloc, vars, flavor)?;

@@ -3,7 +3,7 @@ ghost use Rattle.std.specs.Prelude.{◌≡◌, ◌≢◌, IfOk, IfErr, bytes_eq,
 ghost use Rattle.std.specs.FinMap as map;
 ghost use Rattle.bulk_base.specs.Names as names;
 ghost use Rattle.port_name.specs.Sets.{is_among};
-ghost use Rattle.port_desc.specs.Flavors.{is_bad_flavor, checked_flavors, flavors_of};
+ghost use Rattle.port_desc.specs.Flavors.{AreFlavors, is_bad_flavor, checked_flavors, flavors_of};
 
 use crate::fault::DescError;
 use crate::seen::Seen;
@@ -44,6 +44,7 @@ fn flavor_behind(alloc: Global, before: &Seen, word: &Text) -> Result<Option<Tex
 /// The words, where all are flavors that may stand together.
 fn checked(alloc: Global, listed: Texts) -> Result<Texts, DescError>
     ensures ok { IfOk result (λ flavors. checked_flavors listed ≡ Ok flavors) }
+    ensures sound { IfOk result AreFlavors }
     ensures refused { IfErr result (λ e. e ≢ DescError.NoMemory → checked_flavors listed ≡ Err e) }
 {
     let mut before = Seen::new(alloc);
@@ -66,6 +67,7 @@ fn checked(alloc: Global, listed: Texts) -> Result<Texts, DescError>
 #[tactic(auto, unfolding(crate::specs::Flavors::flavors_of))]
 pub fn flavors(alloc: Global, vars: &Vars) -> Result<Texts, DescError>
     ensures ok { IfOk result (λ flavors. flavors_of (map.get vars.now) ≡ Ok flavors) }
+    ensures sound { IfOk result AreFlavors }
     ensures bad_flavor { IfErr result (λ e. e ≢ DescError.NoMemory → flavors_of (map.get vars.now) ≡ Err e) }
 {
     let value = value_named(alloc, vars, b"FLAVORS")?;

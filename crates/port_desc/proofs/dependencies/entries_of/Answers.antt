@@ -7,6 +7,7 @@ use Rattle.std.proofs.lemmas.Bool.Decides.{nat_tests}
 use Rattle.port_desc.specs.Dependencies.{variables, entries_among, few, entries_of}
 use Rattle.port_desc.specs.declared.fault.DescError.TheVariants.{Limit}
 use Rattle.port_desc.proofs.Variables.{entries_begin, entries_more, entries_refused, entries_end, entries_fault, entries_few, entries_many}
+use Rattle.port_desc.proofs.EntryLaws.{entries_sound}
 use Rattle.port_desc.proofs.dependencies.entries_of.Goals as goal
 
 pub returns-in_err-take_variable-clause-refused : goal.returns-in_err-take_variable-clause-refused
@@ -50,3 +51,6 @@ returns-clause-ok c =
     entries_few values flavor c.args.on.now found
     (ap (entries_among values flavor c.args.on.now) (sym c.as_slice-kind-items.ensures) ∙ entries_end values flavor c.args.on.now kinds found c.loop-kind.kind-index (omega arith) c.loop-kind.invariant)
     (grind (arith, nat_tests)) ∙ ap Ok (sym c.from_vec.ensures)
+
+pub returns-clause-sound : goal.returns-clause-sound
+returns-clause-sound c = entries_sound (map.get c.args.vars.now) (option_copied c.args.flavor) c.args.on.now c.from_vec.result (returns-clause-ok c)

@@ -4,9 +4,9 @@ use Rattle.std.specs.FinMap as map
 use Rattle.std.proofs.lemmas.Result.{err_from_is_err_and}
 use Rattle.bulk_base.specs.Names.{IsPackageName}
 use Rattle.port_desc.specs.Values.{names_on}
-use Rattle.port_desc.specs.Dependencies.{entries_of}
+use Rattle.port_desc.specs.Dependencies.{entries_of, AreEntries}
 use Rattle.port_desc.specs.Description.{desc_with}
-use Rattle.port_desc.proofs.Described.{name_refused, entries_refused, all_good, desc_with-name}
+use Rattle.port_desc.proofs.Described.{name_refused, entries_refused, all_good, desc_with-name, desc_with-entries}
 use Rattle.port_desc.proofs.description.describe.Goals as goal
 
 pub returns-in_err-name-clause-refused : goal.returns-in_err-name-clause-refused
@@ -35,3 +35,8 @@ pub returns-clause-name : goal.returns-clause-name
 returns-clause-name c =
     let name = desc_with-name (map.get c.args.vars.now) (option_copied c.args.flavor) c.as_slice-3.result.now c.in_ok-name.name c.in_ok-entries.entries in
     subst IsPackageName (sym (ap (λ desc. desc.name) c.in_ok-desc_with.ensures ∙ name)) c.in_ok-name.ensures.form
+
+pub returns-clause-entries : goal.returns-clause-entries
+returns-clause-entries c =
+    let entries = desc_with-entries (map.get c.args.vars.now) (option_copied c.args.flavor) c.as_slice-3.result.now c.in_ok-name.name c.in_ok-entries.entries in
+    subst AreEntries (sym (ap (λ desc. desc.entries) c.in_ok-desc_with.ensures ∙ entries)) c.in_ok-entries.ensures.sound
