@@ -1,6 +1,6 @@
 -- What holds of every list of entries that a port's variables give.
 use Rattle.std.proofs.Common.{◌≡◌, ℕ, ◌≤◌, Bool, true, false, List, [], ◌∷◌, ◌++◌, length, cond, ap, sym, subst, ◌∙◌, refl, arith, Ok, Err, Option, Some, None, Result, nat_le}
-use Rattle.std.specs.Prelude.{not, ◌&&◌, ◌==◌, map, filter, bytes_eq}
+use Rattle.std.specs.Prelude.{not, ◌&&◌, ◌==◌, filter, bytes_eq}
 use Rattle.std.specs.List.{AllByRecursion, IsDistinct, list_all, slice_split}
 use Rattle.std.proofs.lemmas.Bool.Decides.{nat_tests}
 use Rattle.bulk_base.specs.Names.{IsNode}
@@ -15,9 +15,9 @@ use Rattle.port_name.proofs.Origins.{IsNode-from_test}
 use Rattle.port_desc.specs.declared.fault.DescError.{DescError}
 use Rattle.port_desc.specs.declared.fault.DescError.TheVariants.{BadDepend, Limit}
 use Rattle.port_desc.specs.declared.entry.Entry.{Entry}
-use Rattle.port_desc.specs.Dependencies.{depends_variable, variables, words_for, target_behind, target_in, target_of, targets_of, each_once, entries_with, entries_among, few, entries_of, is_same, AreEntries}
+use Rattle.port_desc.specs.Dependencies.{depends_variable, variables, words_for, target_in, target_of, targets_of, each_once, entries_with, entries_among, few, entries_of, is_same, AreEntries}
 use Rattle.port_desc.proofs.Lists.{all_weaker, all_append, all_mapped, all_of, all_kept, all_passed, distinct_kept, distinct_append, distinct_mapped}
-use Rattle.port_desc.proofs.Refused.{ok_then, err_then, same_ok, no_err}
+use Rattle.port_desc.proofs.Refused.{same_ok, no_err}
 
 abbrev AreNodes : List (List ℕ) → Type 0
 AreNodes targets = AllByRecursion (λ target. is_node target ≡ true) targets

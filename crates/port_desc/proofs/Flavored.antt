@@ -1,7 +1,7 @@
 -- What the loop over FLAVORS keeps.
-use Rattle.std.proofs.Common.{◌≡◌, ℕ, ◌+◌, ◌<◌, ◌≤◌, Bool, true, false, List, [], ◌∷◌, ◌++◌, length, get_or, take, drop, cond, ap, sym, ◌∙◌, refl, arith, Ok, Err, Option, Some, None, Result}
+use Rattle.std.proofs.Common.{◌≡◌, ℕ, ◌+◌, ◌<◌, ◌≤◌, true, false, List, [], ◌∷◌, ◌++◌, length, get_or, take, drop, cond, ap, sym, ◌∙◌, refl, Ok, Err, Option, Some, None, Result}
 use Rattle.std.specs.Prelude.{not, ◌||◌, bytes_eq, codes}
-use Rattle.std.proofs.lemmas.List.{drop_all, append_assoc}
+use Rattle.std.proofs.lemmas.List.{drop_all}
 use Rattle.std.proofs.lemmas.List.Folds.{list_any-append}
 use Rattle.bulk_base.specs.Names.{is_flavor}
 use Rattle.port_name.specs.Sets.{is_among}

@@ -1,5 +1,5 @@
 -- Steps that may fail, one after another.
-use Rattle.std.proofs.Common.{◌≡◌, List, [], ◌++◌, ap, ◌∙◌, refl, Result, Ok, Err}
+use Rattle.std.proofs.Common.{◌≡◌, List, [], ◌++◌, ap, refl, Result, Ok, Err}
 use Rattle.port_vars.specs.Assignment.{mapped, ◌>>=◌}
 
 pub ok_then : {A B E : Type 0} (r : Result A E) (f : A → Result B E) (a : A) → r ≡ Ok a → (r >>= f) ≡ f a

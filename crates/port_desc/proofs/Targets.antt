@@ -1,12 +1,10 @@
 -- The steps by which words give targets.
-use Rattle.std.proofs.Common.{◌≡◌, ◌≢◌, ℕ, ◌+◌, ◌<◌, ◌≤◌, Bool, true, false, List, [], ◌∷◌, ◌++◌, length, get_or, take, drop, cond, ap, sym, ◌∙◌, refl, arith, Ok, Err, Result}
+use Rattle.std.proofs.Common.{◌≡◌, ◌≢◌, ℕ, ◌+◌, ◌<◌, ◌≤◌, List, [], ◌∷◌, ◌++◌, length, get_or, drop, ap, sym, ◌∙◌, refl, arith, Ok, Err, Result}
 use Rattle.std.specs.Prelude.{map}
 use Rattle.std.proofs.lemmas.List.{drop_all, append_assoc, append-nil}
-use Rattle.bulk_base.specs.Words.{is_filled}
 use Rattle.port_vars.specs.Assignment.{mapped, ◌>>=◌}
-use Rattle.port_name.specs.Forms.{is_node}
 use Rattle.port_desc.specs.declared.fault.DescError.{DescError}
-use Rattle.port_desc.specs.declared.fault.DescError.TheVariants.{BadDepend, Target}
+use Rattle.port_desc.specs.declared.fault.DescError.TheVariants.{BadDepend}
 use Rattle.port_desc.specs.Dependencies.{target_behind, refusal_of_three, target_in, target_of, targets_of}
 use Rattle.port_desc.proofs.Turns.{left_more}
 use Rattle.port_desc.proofs.Refused.{ok_then, err_then, mapped-none, mapped-mapped, mapped_alike, then_ok}

@@ -1,13 +1,13 @@
 -- Texts joined, and names that are texts.
-use Rattle.std.proofs.Common.{◌≡◌, ℕ, Bool, true, List, ◌∷◌, ◌++◌, arith, ap, ◌∙◌, refl}
-use Rattle.std.specs.Prelude.{◌&&◌, ◌||◌, ◌==◌, Option, Some, None, IfSome}
+use Rattle.std.proofs.Common.{◌≡◌, ℕ, true, List, ◌∷◌, ◌++◌, arith, ap, ◌∙◌}
+use Rattle.std.specs.Prelude.{Option, Some, None, IfSome}
 use Rattle.std.specs.Str.{is_utf8}
 use Rattle.std.proofs.lemmas.Str.{is_utf8-from_IsUtf8}
 use Rattle.std.proofs.lemmas.Bool.Decides.{nat_tests}
 use Rattle.std.proofs.lemmas.List.Folds.{list_all-append}
 use Rattle.std.specs.List.{list_all}
 use Rattle.bulk_base.specs.Text.{IsText, is_text, is_plain_text, has_text_bytes}
-use Rattle.bulk_base.specs.Names.{is_flavor, is_lower, is_digit, IsOrigin, IsNode, node_of, origin_of}
+use Rattle.bulk_base.specs.Names.{is_flavor, IsOrigin, node_of}
 use Rattle.bulk_base.proofs.Paths.{is_text-plain, IsText-from_is_text}
 use Rattle.port_vars.proofs.TextParts.{IsText-append}
 use Rattle.port_name.specs.Forms.{is_node, is_flavor_byte}

@@ -1,7 +1,6 @@
 -- What the loop over the dependency variables keeps.
-use Rattle.std.proofs.Common.{◌≡◌, ℕ, ◌+◌, ◌<◌, ◌≤◌, Bool, true, false, List, [], ◌∷◌, ◌++◌, length, get_or, drop, cond, ap, sym, ◌∙◌, refl, arith, Ok, Err, Result, Option, nat_le}
+use Rattle.std.proofs.Common.{◌≡◌, ℕ, ◌+◌, ◌≤◌, true, false, List, [], ◌∷◌, ◌++◌, length, drop, cond, ap, sym, ◌∙◌, Ok, Err, Result, Option, nat_le}
 use Rattle.std.proofs.lemmas.List.{drop_all, append_assoc, append-nil}
-use Rattle.std.proofs.lemmas.Bool.Decides.{nat_tests}
 use Rattle.bulk_model.specs.declared.depend.DepKind.{DepKind}
 use Rattle.port_vars.specs.Reference.{Values}
 use Rattle.port_vars.specs.Assignment.{mapped, ◌>>=◌}
@@ -9,7 +8,6 @@ use Rattle.port_desc.specs.declared.fault.DescError.{DescError}
 use Rattle.port_desc.specs.declared.fault.DescError.TheVariants.{Limit}
 use Rattle.port_desc.specs.declared.entry.Entry.{Entry}
 use Rattle.port_desc.specs.Dependencies.{depends_variable, variables, words_for, targets_of, entries_with, entries_among, few, entries_of}
-use Rattle.port_desc.proofs.Turns.{left_more}
 use Rattle.port_desc.proofs.Refused.{ok_then, err_then, mapped-none, mapped-mapped, mapped_alike, then_ok}
 
 -- entries behind some that are known

@@ -2,7 +2,7 @@
 use Rattle.std.specs.Prelude.{ℕ, List, [], codes}
 use Rattle.std.specs.declared.option.Option.{Option}
 use Rattle.std.specs.declared.result.Result.{Result}
-use Rattle.std.specs.declared.result.Result.TheVariants.{Ok, Err}
+use Rattle.std.specs.declared.result.Result.TheVariants.{Ok}
 use Rattle.bulk_base.specs.declared.file.Switch.{Switch}
 use Rattle.port_vars.specs.Reference.{Values}
 use Rattle.port_vars.specs.Assignment.{◌>>=◌}

@@ -1,4 +1,4 @@
--- Why a port is not built (Porter's Handbook, "Marking a Port as Broken"; docs/FORMATS.md, "A port's description").
+-- Why a port is not built (Porter's Handbook, "Marking a Port Not Installable"; docs/FORMATS.md, "A port's description").
 use Rattle.std.specs.Prelude.{ℕ, List, ◌++◌}
 use Rattle.std.specs.declared.option.Option.{Option}
 use Rattle.std.specs.Option.{option_map}

@@ -1,12 +1,12 @@
-use Rattle.std.proofs.Common.{◌≡◌, ◌∙◌, ◌+◌, ◌<◌, ◌≤◌, Ok, Err, ap, sym, subst, arith, drop, true, false, nat_le, length}
+use Rattle.std.proofs.Common.{◌≡◌, ◌∙◌, ◌+◌, ◌<◌, ◌≤◌, Ok, Err, ap, sym, arith, drop, length}
 use Rattle.std.specs.Option.{option_copied}
 use Rattle.std.specs.FinMap as map
 use Rattle.std.proofs.lemmas.List.{drop_more}
 use Rattle.std.proofs.lemmas.Result.{err_from_is_err_and}
 use Rattle.std.proofs.lemmas.Bool.Decides.{nat_tests}
-use Rattle.port_desc.specs.Dependencies.{variables, entries_among, few, entries_of}
+use Rattle.port_desc.specs.Dependencies.{entries_among}
 use Rattle.port_desc.specs.declared.fault.DescError.TheVariants.{Limit}
-use Rattle.port_desc.proofs.Variables.{entries_begin, entries_more, entries_refused, entries_end, entries_fault, entries_few, entries_many}
+use Rattle.port_desc.proofs.Variables.{entries_more, entries_refused, entries_end, entries_fault, entries_few, entries_many}
 use Rattle.port_desc.proofs.EntryLaws.{entries_sound}
 use Rattle.port_desc.proofs.dependencies.entries_of.Goals as goal
 
