@@ -1,0 +1,4 @@
+pub mod PlanEdges
+mod Setbacks
+mod Counts
+mod ExampleFacts

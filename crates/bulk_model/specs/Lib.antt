@@ -13,3 +13,4 @@ pub mod Cause
 pub mod Lists
 pub mod Sound
 pub mod Baked
+pub mod Examples

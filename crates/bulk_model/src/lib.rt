@@ -10,7 +10,10 @@ mod plan;
 mod reason;
 mod results;
 mod shared;
+mod skip;
 mod steps;
+#[cfg(test)]
+mod tests;
 
 pub use baking::Baking;
 pub use depend::{DepKind, Depend, Depends};
@@ -21,4 +24,5 @@ pub use plan::{Edge, EdgeLists, Edges, Kept, MaybePackages, MaybeTexts, Numbers,
 pub use reason::{Notice, Notices, Reason, Stale, Stales, Which};
 pub use results::{Results, Status, Statuses};
 pub use shared::Shared;
+pub use skip::cause;
 pub use steps::{Command, Commands, Steps};

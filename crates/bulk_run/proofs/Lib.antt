@@ -10,7 +10,6 @@ pub mod Staged
 pub mod CutFiles
 pub mod PortName
 pub mod OneList
-pub mod ExamplePackage
 pub mod FoundPort
 pub mod FirstJob
 pub mod FileName

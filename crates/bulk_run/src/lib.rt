@@ -14,7 +14,6 @@ mod port_place;
 mod port_run;
 mod port_store;
 mod port_tree;
-mod record_writer;
 mod refusal;
 mod room_build;
 mod staging;

@@ -9,10 +9,10 @@ ghost use Rattle.bulk_model.specs.Sound.{package_file};
 ghost use Rattle.bulk_model.specs.Spelling.{spelling};
 ghost use Rattle.bulk_run.specs.FirstPath.{is_package_file as is_package_file_of};
 
-use crate::record_writer::write;
 use bulk_base::{NoMemory, Text};
 use bulk_model::Package;
 use outside::{Outer, Store};
+use pkg_record::write;
 use std::alloc::Global;
 
 fn is_package_file(name: &[u8]) -> bool

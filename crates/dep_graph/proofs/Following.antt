@@ -1,17 +1,14 @@
 -- The nodes that followed edges lead to, edge by edge.
-use Rattle.std.proofs.Common.{◌≡◌, ℕ, ◌+◌, ◌<◌, ◌≤◌, Bool, true, false, List, [], ◌∷◌, ◌++◌, length, get_or, take, refl, ap, sym, subst, ◌∙◌, arith, cond}
-use Rattle.std.specs.Prelude.{map, filter}
-use Rattle.std.specs.List.{All}
-use Rattle.std.proofs.lemmas.Bool.{cases_Bool}
+use Rattle.std.proofs.Common.{◌≡◌, ℕ, ◌+◌, ◌<◌, Bool, true, false, List, [], ◌∷◌, ◌++◌, length, get_or, take, refl, ap, sym, ◌∙◌, cond}
+use Rattle.std.specs.Prelude.{filter}
 use Rattle.std.proofs.lemmas.List.{take_more, map-append, append-nil}
 use Rattle.std.proofs.lemmas.List.Elements.{filter-append}
 use Rattle.std.proofs.lemmas.List.Sums.{fold_push}
-use Rattle.bulk_model.specs.declared.depend.DepKind.{DepKind}
 use Rattle.bulk_model.specs.declared.plan.Edge.{Edge}
 use Rattle.bulk_model.specs.Installs.{is_needed_later}
 use Rattle.dep_graph.specs.declared.spread.Follow.{Follow}
 use Rattle.dep_graph.specs.declared.spread.Follow.TheVariants.{All as Every, Later}
-use Rattle.dep_graph.specs.Graphs.{has, targets}
+use Rattle.dep_graph.specs.Graphs.{targets}
 use Rattle.dep_graph.specs.Found.{FoundView, follows, followed, with_node, with_nodes, found_with}
 
 abbrev pub if_followed : Bool → ℕ → List ℕ

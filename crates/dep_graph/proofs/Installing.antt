@@ -1,18 +1,17 @@
 -- What is installed, by the rounds that the loop makes.
-use Rattle.std.proofs.Common.{◌≡◌, ℕ, zero, suc, ◌+◌, ◌<◌, ◌≤◌, Bool, true, false, List, [], ◌∷◌, ◌++◌, length, get_or, take, refl, ap, sym, subst, ◌∙◌, arith, IsTrue}
-use Rattle.std.specs.Prelude.{◌==◌, ◌||◌, ◌&&◌, filter, map, nat_lt}
-use Rattle.std.specs.List.{list_any, list_all, range_with_len, All}
+use Rattle.std.proofs.Common.{◌≡◌, ℕ, zero, suc, ◌<◌, Bool, true, List, [], ◌∷◌, length, get_or, refl, ap, sym, subst, ◌∙◌, arith}
+use Rattle.std.specs.Prelude.{◌==◌, ◌||◌, ◌&&◌, filter, nat_lt}
+use Rattle.std.specs.List.{list_any, list_all, range_with_len}
 use Rattle.std.proofs.lemmas.Bool.{eq-eqb, eqb-true, ltb-true}
 use Rattle.std.proofs.lemmas.List.{get_or_default, get_or-map, length-map}
 use Rattle.std.proofs.lemmas.List.Sums.{AllPass-from_list_all}
-use Rattle.std.proofs.lemmas.List.Elements.{All-from_get_or, All-get_or}
 use Rattle.bulk_model.specs.declared.plan.Edge.{Edge}
 use Rattle.bulk_model.specs.PlanView.{PlanView, nodes, depends}
 use Rattle.bulk_model.specs.PlanFacts.{IsPlan}
 use Rattle.bulk_model.specs.Installs.{later_depends, is_installed, installs}
-use Rattle.dep_graph.specs.Graphs.{has, edges_at, targets, depends_at, IsWithin}
+use Rattle.dep_graph.specs.Graphs.{has, IsWithin}
 use Rattle.dep_graph.specs.Reached.{is_reached}
-use Rattle.dep_graph.specs.Found.{FoundView, Spreads, with_nodes, found_with}
+use Rattle.dep_graph.specs.Found.{FoundView, Spreads, with_nodes}
 use Rattle.dep_graph.proofs.Members.{same_bool, has-range, has_from_place, all_has, filter_agree_below}
 use Rattle.dep_graph.proofs.Extending.{extended}
 

@@ -1,16 +1,16 @@
 -- Chains of dependents, node by node from the end of an order.
-use Rattle.std.proofs.Common.{◌≡◌, ◌≢◌, ℕ, zero, suc, ◌+◌, ◌-◌, ◌<◌, ◌≤◌, max, Bool, true, false, List, [], ◌∷◌, ◌++◌, length, get_or, set, take, drop, replicate, refl, ap, sym, subst, ◌∙◌, arith, cond, nat_eq, inl, inr, ◌⊎◌}
-use Rattle.std.specs.Prelude.{◌==◌, ◌||◌, ◌&&◌, not, map}
+use Rattle.std.proofs.Common.{◌≡◌, ◌≢◌, ℕ, suc, ◌+◌, ◌-◌, ◌<◌, ◌≤◌, max, Bool, true, false, List, [], ◌∷◌, ◌++◌, length, get_or, set, take, replicate, refl, ap, sym, subst, ◌∙◌, arith, cond, nat_eq, inl, inr, ◌⊎◌}
+use Rattle.std.specs.Prelude.{◌||◌}
 use Rattle.std.specs.List.{All, IsDistinct}
-use Rattle.std.proofs.lemmas.Bool.{eq-eqb, eqb-true, ne_eqb, cases_lt, cases_eq, both_ways, and_parts, and_from, false_from_ne_true}
+use Rattle.std.proofs.lemmas.Bool.{eq-eqb, ne_eqb, cases_lt, cases_eq, both_ways, and_parts, and_from, false_from_ne_true}
 use Rattle.std.proofs.lemmas.List.{take_more, map_push, length-set, get_or-set_same, get_or-set_other, take-take, get_or_past, get_or-replicate, length-replicate}
 use Rattle.std.proofs.lemmas.List.Elements.{All-get_or}
 use Rattle.std.proofs.lemmas.List.Sums.{AllPass-from_list_all}
 use Rattle.bulk_model.specs.declared.plan.Edge.{Edge}
-use Rattle.dep_graph.specs.Graphs.{has, edges_at, targets, depends_at, nodes_of, IsWithin}
+use Rattle.dep_graph.specs.Graphs.{has, targets, depends_at, nodes_of, IsWithin}
 use Rattle.dep_graph.specs.Order.{IsInOrder, IsLooplessPart, is_free, is_loopless}
 use Rattle.dep_graph.specs.Chains.{is_chain_above, HasChain, IsLongest, Raised}
-use Rattle.dep_graph.proofs.Members.{Place, place_of, has-append, has-range, has_from_place, all_has}
+use Rattle.dep_graph.proofs.Members.{Place, place_of, has-range, all_has}
 use Rattle.dep_graph.proofs.Reaching.{target_below}
 use Rattle.dep_graph.proofs.Waiting.{not_before, has_first, has_pushed}
 

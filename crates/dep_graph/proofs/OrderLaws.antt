@@ -1,15 +1,14 @@
 -- What holds of every order, of the longest chains and of what is installed.
-use Rattle.std.proofs.Common.{◌≡◌, ℕ, zero, suc, ◌+◌, ◌<◌, ◌≤◌, Bool, true, false, List, [], ◌∷◌, length, get_or, take, refl, ap, sym, subst, ◌∙◌, arith, cond, inl, inr, ◌⊎◌}
-use Rattle.std.specs.Prelude.{◌==◌, ◌||◌, ◌&&◌, filter, map}
-use Rattle.std.specs.List.{All}
-use Rattle.std.proofs.lemmas.Bool.{and_parts, and_from, or_right, cases_lt, eq-eqb, or_cases, or_left}
-use Rattle.std.proofs.lemmas.List.{length-take, get_or-take, take_all, length-take-le, take-take}
+use Rattle.std.proofs.Common.{◌≡◌, ℕ, zero, suc, ◌<◌, ◌≤◌, Bool, true, false, List, [], ◌∷◌, length, get_or, take, refl, ap, sym, subst, ◌∙◌, arith, cond, inl, inr, ◌⊎◌}
+use Rattle.std.specs.Prelude.{◌==◌, ◌||◌, ◌&&◌, filter}
+use Rattle.std.specs.List.{list_all, range_with_len, All}
+use Rattle.std.proofs.lemmas.Bool.{and_parts, and_from, or_right, cases_lt}
+use Rattle.std.proofs.lemmas.List.{get_or-take, take_all, length-take-le, take-take}
 use Rattle.bulk_model.specs.declared.plan.Edge.{Edge}
-use Rattle.bulk_model.specs.PlanView.{PlanView, nodes, edges_from, depends}
+use Rattle.bulk_model.specs.PlanView.{PlanView, nodes, edges_from, depends, away, is_loopless as has_no_loop}
 use Rattle.bulk_model.specs.Installs.{is_needed_later, later_depends, is_installed, installs}
-use Rattle.dep_graph.specs.Graphs.{has, targets, edges_at, depends_at}
-use Rattle.dep_graph.specs.Reached.{is_reached, IsClosed}
-use Rattle.dep_graph.specs.Order.{IsInOrder}
+use Rattle.dep_graph.specs.Graphs.{has, targets, depends_at}
+use Rattle.dep_graph.specs.Order.{IsInOrder, is_away, is_loopless}
 use Rattle.dep_graph.specs.Chains.{is_chain_above, IsLongest}
 use Rattle.dep_graph.proofs.Members.{Place, place_of, has-filter, all_has, all_from_has}
 use Rattle.dep_graph.proofs.Rounds.{stays_within}
@@ -73,3 +72,18 @@ installs_within plan n d keeps begun closed h =
 pub installs_before : (plan : PlanView) (list : List ℕ) (at d : ℕ) → IsInOrder plan.edges list → at < length list → has (installs plan (get_or list at 0)) d ≡ true → has (take at list) d ≡ true
 installs_before plan list at d o l h =
     installs_within plan (get_or list at 0) d (has (take at list)) (o.behind at l) (λ m x t e. prefix_closed plan.edges list at m x o t e) h
+
+-- the rounds of a plan are those of the graph of its edges
+all_agree : (p q : ℕ → Bool) (xs : List ℕ) → ((x : ℕ) → p x ≡ q x) → list_all p xs ≡ list_all q xs
+all_agree p q [] same = refl
+all_agree p q (x ∷ xs) same = ap (λ b. b && list_all p xs) (same x) ∙ ap (λ b. q x && b) (all_agree p q xs same)
+
+away_agree : (plan : PlanView) (rounds n : ℕ) → away plan rounds n ≡ is_away plan.edges rounds n
+away_agree plan zero n = refl
+away_agree plan (suc rounds) n = all_agree (away plan rounds) (is_away plan.edges rounds) (depends plan n) (away_agree plan rounds)
+
+-- a plan has no loop where the graph of its edges has none
+pub loopless_plan : (plan : PlanView) → length plan.edges ≡ length plan.jobs → has_no_loop plan ≡ is_loopless plan.edges
+loopless_plan plan size =
+    all_agree (away plan (length plan.jobs)) (is_away plan.edges (length plan.jobs)) (nodes plan) (away_agree plan (length plan.jobs))
+    ∙ ap (λ count. list_all (is_away plan.edges count) (range_with_len 0 count)) (sym size)

@@ -1,13 +1,12 @@
 -- Where the loop begins that orders nodes, and what is ordered where it ends.
-use Rattle.std.proofs.Common.{◌≡◌, ◌≢◌, ℕ, zero, suc, ◌+◌, ◌-◌, ◌<◌, ◌≤◌, Bool, true, false, List, [], ◌∷◌, ◌++◌, length, get_or, set, take, drop, refl, ap, sym, subst, ◌∙◌, arith, cond, nat_eq, inl, inr, ◌⊎◌, Some}
-use Rattle.std.specs.Prelude.{◌==◌, ◌||◌, ◌&&◌, not, filter, map}
-use Rattle.std.specs.List.{list_any, list_all, range_with_len, All, IsDistinct, count_by, AllPairs, slice_get}
+use Rattle.std.proofs.Common.{◌≡◌, ◌≢◌, ℕ, zero, suc, ◌+◌, ◌-◌, ◌<◌, ◌≤◌, Bool, true, false, List, [], ◌∷◌, ◌++◌, length, get_or, take, refl, ap, sym, subst, ◌∙◌, arith, nat_eq, Some}
+use Rattle.std.specs.Prelude.{◌==◌, ◌&&◌, not, filter, map}
+use Rattle.std.specs.List.{list_all, range_with_len, All, IsDistinct, AllPairs, slice_get}
 use Rattle.std.specs.Cmp.{nat_eq_equiv}
-use Rattle.std.proofs.lemmas.Bool.{eq-eqb, eqb-true, ne_eqb, cases_lt, cases_Bool, cases_eq, both_ways, and_parts, and_from, false_from_ne_true}
-use Rattle.std.proofs.lemmas.List.{take_all, get_or-map, length-map, length_push, nil_from_length, length-take-le, get_or-take, drop_more, drop_all}
+use Rattle.std.proofs.lemmas.Bool.{eq-eqb, eqb-true, ne_eqb, both_ways, and_parts, and_from, false_from_ne_true}
+use Rattle.std.proofs.lemmas.List.{take_all, get_or-map, length-map, length_push, nil_from_length, length-take-le, get_or-take}
 use Rattle.std.proofs.lemmas.List.Kept.{IsStrictlyIncreasing-filter, AllPairs-from_increasing}
-use Rattle.std.proofs.lemmas.List.Sums.{AllPass-from_list_all, list_all-from_AllPass, sum_by-cons}
-use Rattle.std.proofs.lemmas.List.Folds.{list_all_at}
+use Rattle.std.proofs.lemmas.List.Sums.{AllPass-from_list_all, list_all-from_AllPass}
 use Rattle.std.proofs.lemmas.List.Elements.{All-push, All-nil}
 use Rattle.std.proofs.lemmas.Map.Keys.{IsDistinct-push, IsDistinct-from_apart}
 use Rattle.std.proofs.lemmas.Map.Steps.{le-length_from_below}
@@ -15,9 +14,9 @@ use Rattle.bulk_model.specs.declared.plan.Edge.{Edge}
 use Rattle.dep_graph.specs.Graphs.{has, edges_at, targets, depends_at, nodes_of, IsWithin}
 use Rattle.dep_graph.specs.Order.{IsInOrder, IsDependencyOrder, is_away, is_free, is_loopless, IsLooplessPart}
 use Rattle.dep_graph.specs.Waiting.{times, count_outside, IsWaiting}
-use Rattle.dep_graph.proofs.Members.{Place, place_of, has_from_place, has_at, has-append, has-filter, has-range, below-range, all_has, all_from_has, same_bool, at_most, got}
+use Rattle.dep_graph.proofs.Members.{Place, place_of, has_at, has-filter, has-range, below-range, all_has, all_from_has, same_bool, at_most, got}
 use Rattle.dep_graph.proofs.Reaching.{target_below, increasing_range}
-use Rattle.dep_graph.proofs.Waiting.{some_outside, Outside, count_outside-cons, one_if, take_up}
+use Rattle.dep_graph.proofs.Waiting.{some_outside, Outside, count_outside-cons, take_up}
 use Rattle.dep_graph.proofs.Turns.{times_dependents}
 use Rattle.dep_graph.specs.Turned.{dependents_at, dependents}
 use Rattle.std.proofs.lemmas.List.FromFn.{length-range_with_len, get_or-map-range_with_len}

@@ -1,7 +1,7 @@
 -- All that was found, as the nodes that are reached.
-use Rattle.std.proofs.Common.{◌≡◌, ℕ, zero, suc, ◌+◌, ◌<◌, ◌≤◌, Bool, true, false, List, [], ◌∷◌, ◌++◌, length, get_or, take, refl, ap, sym, subst, ◌∙◌, arith, inl, inr, ◌⊎◌}
-use Rattle.std.specs.Prelude.{◌==◌, ◌||◌, ◌&&◌, filter, map}
-use Rattle.std.specs.List.{list_any, range_with_len, All}
+use Rattle.std.proofs.Common.{◌≡◌, ℕ, ◌+◌, ◌<◌, ◌≤◌, Bool, true, List, [], length, get_or, ap, sym, subst, ◌∙◌, arith, inl, inr, ◌⊎◌}
+use Rattle.std.specs.Prelude.{◌&&◌, filter}
+use Rattle.std.specs.List.{range_with_len, All}
 use Rattle.std.specs.List.Sorted.{IsStrictlyIncreasing}
 use Rattle.std.proofs.lemmas.Bool.{and_parts, and_from, cases_lt}
 use Rattle.std.proofs.lemmas.List.{get_or_past}
@@ -9,10 +9,10 @@ use Rattle.std.proofs.lemmas.List.Elements.{All-get_or, All-map}
 use Rattle.std.proofs.lemmas.List.Kept.{IsStrictlyIncreasing-filter}
 use Rattle.std.proofs.lemmas.List.FromFn.{length-range_with_len, get_or-range_with_len}
 use Rattle.bulk_model.specs.declared.plan.Edge.{Edge}
-use Rattle.dep_graph.specs.Graphs.{has, edges_at, targets, depends_at, nodes_of, IsWithin}
+use Rattle.dep_graph.specs.Graphs.{has, edges_at, targets, depends_at, IsWithin}
 use Rattle.dep_graph.specs.Reached.{is_reached, reach, IsClosed, IsReach}
 use Rattle.dep_graph.specs.Found.{FoundView, Spreads, with_nodes}
-use Rattle.dep_graph.proofs.Members.{has_at, has-range, below-range, has-filter, all_has, all_from_has, filter_agree_below}
+use Rattle.dep_graph.proofs.Members.{has-range, below-range, has-filter, all_has, all_from_has, filter_agree_below}
 use Rattle.dep_graph.proofs.Extending.{extended}
 use Rattle.dep_graph.proofs.Rounds.{rounds_upto, stays_within}
 

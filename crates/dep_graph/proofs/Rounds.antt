@@ -1,14 +1,14 @@
 -- Rounds that add what members lead to.
-use Rattle.std.proofs.Common.{◌≡◌, ℕ, zero, suc, ◌+◌, ◌<◌, ◌≤◌, Bool, true, false, List, [], ◌∷◌, ◌++◌, length, get_or, take, ◌-◌, refl, ap, sym, subst, ◌∙◌, arith, inl, inr, ◌⊎◌}
-use Rattle.std.specs.Prelude.{◌==◌, ◌||◌, ◌&&◌}
-use Rattle.std.specs.List.{list_any, range_with_len, All, Any}
+use Rattle.std.proofs.Common.{◌≡◌, ℕ, zero, suc, ◌+◌, ◌<◌, ◌≤◌, Bool, true, List, length, get_or, ◌-◌, ap, subst, ◌∙◌, arith, inl, inr, ◌⊎◌}
+use Rattle.std.specs.Prelude.{◌&&◌}
+use Rattle.std.specs.List.{list_any, range_with_len, Any}
 use Rattle.std.proofs.lemmas.Bool.{or_left, or_right, or_cases, and_from, and_parts}
 use Rattle.std.proofs.lemmas.List.Folds.{Any-from_list_any, list_any_at}
 use Rattle.std.proofs.lemmas.List.FromFn.{length-range_with_len, get_or-range_with_len}
 use Rattle.std.proofs.lemmas.List.{get_or_default}
 use Rattle.dep_graph.specs.Graphs.{has}
 use Rattle.dep_graph.specs.Reached.{is_reached, IsClosed}
-use Rattle.dep_graph.proofs.Members.{has_at, has-range, below-range, all_has}
+use Rattle.dep_graph.proofs.Members.{has_at, below-range, all_has}
 
 -- a test that some number below a bound passes
 pub some_below : (p : ℕ → Bool) (count n : ℕ) → n < count → p n ≡ true → list_any p (range_with_len 0 count) ≡ true

@@ -1,13 +1,12 @@
 -- What the loop keeps that goes from node to node.
-use Rattle.std.proofs.Common.{◌≡◌, ℕ, zero, suc, ◌+◌, ◌<◌, ◌≤◌, Bool, true, false, List, [], ◌∷◌, ◌++◌, length, get_or, take, refl, ap, sym, subst, ◌∙◌, arith, inl, inr, ◌⊎◌, Some}
-use Rattle.std.specs.Prelude.{◌==◌, ◌||◌, ◌&&◌}
-use Rattle.std.specs.List.{list_any, range_with_len, All, slice_get}
-use Rattle.std.proofs.lemmas.Bool.{or_left, or_right, or_cases, cases_lt}
+use Rattle.std.proofs.Common.{◌≡◌, ℕ, suc, ◌+◌, ◌<◌, ◌≤◌, true, List, length, get_or, ap, sym, subst, ◌∙◌, arith, inl, inr, ◌⊎◌, Some}
+use Rattle.std.specs.List.{All, slice_get}
+use Rattle.std.proofs.lemmas.Bool.{or_left, or_right, cases_lt}
 use Rattle.std.proofs.lemmas.List.Elements.{All-weaker}
 use Rattle.dep_graph.specs.Graphs.{has}
-use Rattle.dep_graph.specs.Reached.{is_reached, IsClosed}
+use Rattle.dep_graph.specs.Reached.{is_reached}
 use Rattle.dep_graph.specs.Found.{FoundView, Spreads, with_nodes, found_with}
-use Rattle.dep_graph.proofs.Members.{has_at, all_has, all_from_has, Place, place_of, same_bool, got}
+use Rattle.dep_graph.proofs.Members.{has_at, all_from_has, Place, place_of, same_bool, got}
 use Rattle.dep_graph.proofs.Extending.{Extends, extended}
 use Rattle.dep_graph.proofs.Rounds.{rounds_upto, round_adds, stays_within}
 

@@ -1,12 +1,12 @@
 -- Lists that grow by turned edges.
-use Rattle.std.proofs.Common.{◌≡◌, ℕ, zero, suc, ◌+◌, ◌<◌, ◌≤◌, ◌^◌, Bool, true, false, List, [], ◌∷◌, ◌++◌, length, get_or, take, replicate, refl, ap, sym, subst, ◌∙◌, arith}
-use Rattle.std.specs.Prelude.{◌==◌, ◌&&◌, filter, map}
+use Rattle.std.proofs.Common.{◌≡◌, ℕ, ◌+◌, ◌<◌, ◌^◌, List, [], ◌∷◌, ◌++◌, length, get_or, replicate, ap, sym, subst, ◌∙◌, arith}
+use Rattle.std.specs.Prelude.{filter}
 use Rattle.std.specs.List.{flat_map, range_with_len, All}
 use Rattle.std.proofs.lemmas.List.{flat_map_more, append_assoc, get_or-replicate, length-replicate, length-map}
 use Rattle.std.proofs.lemmas.List.FromFn.{fill_by_all, length-range_with_len}
 use Rattle.std.proofs.lemmas.List.Elements.{All-append, All-nil, All-map, All-head, All-tail}
 use Rattle.bulk_model.specs.declared.plan.Edge.{Edge}
-use Rattle.dep_graph.specs.Graphs.{has, edges_at, nodes_of, IsWithin, IsGraph}
+use Rattle.dep_graph.specs.Graphs.{edges_at, nodes_of, IsWithin, IsGraph}
 use Rattle.dep_graph.specs.Turned.{is_edge_to, turned_of_kind, turned_from, dependents_at, dependents, Grew}
 use Rattle.dep_graph.proofs.Members.{range_more, all_from_has, below-range}
 

@@ -1,18 +1,18 @@
 -- Turned edges are counted as the edges are.
-use Rattle.std.proofs.Common.{◌≡◌, ◌≢◌, ℕ, zero, suc, ◌+◌, ◌<◌, ◌≤◌, Bool, true, false, List, [], ◌∷◌, ◌++◌, length, get_or, take, refl, ap, sym, subst, ◌∙◌, arith, cond, inl, inr, ◌⊎◌}
+use Rattle.std.proofs.Common.{◌≡◌, ◌≢◌, ℕ, zero, suc, ◌+◌, ◌<◌, ◌≤◌, Bool, true, false, List, [], ◌∷◌, length, refl, ap, sym, subst, ◌∙◌, arith, cond, inl, inr, ◌⊎◌}
 use Rattle.std.specs.Prelude.{◌==◌, ◌&&◌, filter, map, nat_lt}
-use Rattle.std.specs.List.{flat_map, range_with_len, All, count_by, sum_by}
-use Rattle.std.proofs.lemmas.Bool.{eq-eqb, eqb-true, ne_eqb, lt-ltb, le-ltb, cases_lt, cases_eq}
+use Rattle.std.specs.List.{flat_map, range_with_len, count_by, sum_by}
+use Rattle.std.proofs.lemmas.Bool.{eq-eqb, ne_eqb, lt-ltb, le-ltb, cases_lt, cases_eq}
 use Rattle.std.proofs.lemmas.List.{map-append}
 use Rattle.std.proofs.lemmas.List.Sums.{sum_by-append, sum_by-cons, sum_by_push}
 use Rattle.bulk_model.specs.declared.depend.DepKind.{DepKind}
 use Rattle.bulk_model.specs.declared.depend.DepKind.TheVariants.{Pkg, Fetch, Extract, Patch, Build, Lib, Run}
 use Rattle.bulk_model.specs.declared.plan.Edge.{Edge}
 use Rattle.bulk_model.specs.Facts.{kind_number}
-use Rattle.dep_graph.specs.Graphs.{has, edges_at, targets, depends_at, nodes_of}
-use Rattle.dep_graph.specs.Turned.{is_edge_to, turned_of_kind, turned_from, dependents_at, dependents}
+use Rattle.dep_graph.specs.Graphs.{edges_at, targets, depends_at, nodes_of}
+use Rattle.dep_graph.specs.Turned.{is_edge_to, turned_of_kind, turned_from, dependents_at}
 use Rattle.dep_graph.specs.Waiting.{times}
-use Rattle.dep_graph.proofs.Members.{range_more, same_bool}
+use Rattle.dep_graph.proofs.Members.{range_more}
 use Rattle.dep_graph.proofs.Waiting.{one_if, times-cons}
 use Rattle.dep_graph.proofs.Installing.{eq_turned}
 

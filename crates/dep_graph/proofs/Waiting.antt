@@ -1,18 +1,17 @@
 -- A node more in the order: what the waiting nodes' counts are then.
-use Rattle.std.proofs.Common.{◌≡◌, ℕ, zero, suc, ◌+◌, ◌-◌, ◌<◌, ◌≤◌, Bool, true, false, List, [], ◌∷◌, ◌++◌, length, get_or, set, take, refl, ap, sym, subst, ◌∙◌, arith, cond, nat_eq, inl, inr, ◌⊎◌}
-use Rattle.std.specs.Prelude.{◌==◌, ◌||◌, ◌&&◌, not, filter, map}
-use Rattle.std.specs.List.{list_any, list_all, range_with_len, All, IsDistinct, count_by}
+use Rattle.std.proofs.Common.{◌≡◌, ℕ, ◌+◌, ◌-◌, ◌<◌, ◌≤◌, Bool, true, false, List, [], ◌∷◌, ◌++◌, length, get_or, set, take, refl, ap, sym, subst, ◌∙◌, arith, cond, nat_eq, inl, inr, ◌⊎◌}
+use Rattle.std.specs.Prelude.{◌==◌, ◌||◌, not}
+use Rattle.std.specs.List.{All, IsDistinct}
 use Rattle.std.specs.Cmp.{nat_eq_equiv}
-use Rattle.std.proofs.lemmas.Bool.{eq-eqb, eqb-true, eqb-false, ne_eqb, cases_eq, cases_lt, cases_Bool, both_ways, or_left}
-use Rattle.std.proofs.lemmas.List.{length-set, get_or-set_same, get_or-set_other, length_push, get_or_append_left, get_or_push, take-append-le, take_at, take_all, take_more, length-take-le, get_or-take, get_or-map, length-map, get_or_past}
-use Rattle.std.proofs.lemmas.List.Elements.{All-push, All-nil, All-get_or, All-filter}
+use Rattle.std.proofs.lemmas.Bool.{eq-eqb, eqb-true, eqb-false, ne_eqb, cases_eq, cases_lt, both_ways}
+use Rattle.std.proofs.lemmas.List.{length-set, get_or-set_same, get_or-set_other, length_push, get_or_append_left, get_or_push, take-append-le, take_at, take_all, take_more, length-take-le, get_or-take}
+use Rattle.std.proofs.lemmas.List.Elements.{All-push}
 use Rattle.std.proofs.lemmas.List.Sums.{sum_by-cons}
-use Rattle.std.proofs.lemmas.Map.Keys.{IsDistinct-push, apart_from_distinct, IsDistinct-from_apart}
+use Rattle.std.proofs.lemmas.Map.Keys.{IsDistinct-push, apart_from_distinct}
 use Rattle.bulk_model.specs.declared.plan.Edge.{Edge}
-use Rattle.dep_graph.specs.Graphs.{has, edges_at, targets, depends_at, nodes_of, IsWithin}
-use Rattle.dep_graph.specs.Order.{IsInOrder}
+use Rattle.dep_graph.specs.Graphs.{has, depends_at}
 use Rattle.dep_graph.specs.Waiting.{times, count_outside, IsWaiting}
-use Rattle.dep_graph.proofs.Members.{Place, place_of, has_from_place, has_at, has-append, has-filter, has-range, below-range, all_has, all_from_has, same_bool}
+use Rattle.dep_graph.proofs.Members.{Place, place_of, has_from_place, has-append, all_from_has}
 
 or_none : (b : Bool) → (b || (false || false)) ≡ b
 or_none true = refl

@@ -1,5 +1,5 @@
 -- Nodes as they are found.
-use Rattle.std.specs.Prelude.{◌≡◌, ℕ, Bool, true, false, ◌<◌, List, ◌∷◌, [], ◌++◌, length, map, filter, slice_index_or, nat_eq, if◌then◌else◌}
+use Rattle.std.specs.Prelude.{◌≡◌, ℕ, Bool, true, false, ◌<◌, List, ◌∷◌, [], ◌++◌, length, filter, slice_index_or, nat_eq, if◌then◌else◌}
 use Rattle.std.specs.List.{All, IsDistinct, fold}
 use Rattle.bulk_model.specs.declared.depend.DepKind.{DepKind}
 use Rattle.bulk_model.specs.declared.plan.Edge.{Edge}

@@ -1,5 +1,5 @@
 -- The graph of dependents: each edge turned round.
-use Rattle.std.specs.Prelude.{◌≡◌, ℕ, Bool, ◌==◌, ◌&&◌, ◌<◌, List, [], ◌++◌, length, map, filter}
+use Rattle.std.specs.Prelude.{◌≡◌, ℕ, Bool, ◌==◌, ◌&&◌, ◌<◌, List, ◌++◌, length, map, filter}
 use Rattle.std.specs.List.{flat_map, range_with_len}
 use Rattle.bulk_model.specs.declared.plan.Edge.{Edge}
 use Rattle.bulk_model.specs.Facts.{kind_number}

@@ -12,3 +12,5 @@ pub mod Spelled
 pub mod NamesAgain
 pub mod SaidAgain
 pub mod SpelledAgain
+pub mod Fronts
+pub mod Refused

@@ -1,6 +1,6 @@
 -- What is read as a package is spelled so.
 use Rattle.std.proofs.Common.{◌≡◌, ℕ, ◌-◌, zero, suc, Bool, true, false, List, [], ◌∷◌, ◌++◌, length, take, codes, arith, refl, ap, ap₂, sym, subst, ◌∙◌, append_assoc, append-nil}
-use Rattle.std.specs.Prelude.{◌==◌, ◌≢◌, Option, Some, Result, Ok, Err, IfOk, IfErr, cond, bytes_eq}
+use Rattle.std.specs.Prelude.{◌==◌, ◌≢◌, Option, Some, Result, Ok, Err, IfOk, cond, bytes_eq}
 use Rattle.std.specs.Option.{option_and_then}
 use Rattle.std.specs.List.{flat_map}
 use Rattle.std.specs.Fmt.{decimal}
@@ -14,6 +14,7 @@ use Rattle.hex.specs.Hex.{encode_lower}
 use Rattle.bulk_base.specs.declared.file.FileItem.{FileItem}
 use Rattle.bulk_base.specs.declared.file.Switch.{Switch}
 use Rattle.bulk_model.specs.declared.depend.Depend.{Depend}
+use Rattle.bulk_model.specs.Facts.{IsPackage}
 use Rattle.bulk_model.specs.Views.{PackageView}
 use Rattle.bulk_model.specs.Spelling.{line, flavor_word, option_line, depend_line, file_piece, unsigned, signed_with, spelling}
 use Rattle.pkg_record.specs.declared.fault.Fault.{Fault}
@@ -21,9 +22,9 @@ use Rattle.pkg_record.specs.declared.fault.Fault.TheVariants.{Short, Misfit}
 use Rattle.pkg_record.specs.declared.fault.RecordError.{RecordError}
 use Rattle.pkg_record.specs.declared.fault.RecordError.TheVariants as records
 use Rattle.pkg_record.specs.Forms.{is_origin, is_package_name, is_digest}
-use Rattle.pkg_record.specs.Said.{passing, word_behind, flavor_said, count_behind, option_said, depend_said, file_said}
+use Rattle.pkg_record.specs.Said.{behind, passing, word_behind, flavor_said, count_behind, option_said, depend_said, file_said}
 use Rattle.pkg_record.specs.Reading.{◌>>=◌, said_at, piece_at, last_of, option_follows, next_option, option_at, depend_follows, next_depend, depend_at, is_next_path, next_file, file_at, items_at, listed_at, unsigned_at, Signed, signed, signed_at, digest_of, judged, record_of}
-use Rattle.pkg_record.specs.Laws.{IsForDigest}
+use Rattle.pkg_record.specs.Laws.{HasOtherDigest}
 use Rattle.pkg_record.proofs.NextPath.{may_follow}
 use Rattle.pkg_record.proofs.Taken.{bind_ok, then_some, given, given_ok, ok_is, said_taken, word_taken, flavor_taken, count_taken, option_taken, depend_taken, path_filled, file_taken, piece_taken}
 
@@ -217,6 +218,15 @@ unsigned_taken bytes p rest e =
 record IsSigned (bytes : List ℕ) (s : Signed) : Type 0 where
   pub spelled : bytes ≡ signed_with s.stated s.read
   pub before : take s.size bytes ≡ unsigned s.read
+  pub form : is_digest s.stated ≡ true
+
+-- a word that was read behind a heading passes its test
+word_form : (heading : List ℕ) (test : List ℕ → Bool) (bytes word rest : List ℕ) → said_at (word_behind heading test) bytes ≡ Ok (word, rest) → test word ≡ true
+word_form heading test bytes word rest e =
+    let s = said_taken (word_behind heading test) bytes word rest e in
+    let t = then_some (behind heading s.0) (passing test) word s.1 in
+    let g = given (test t.0) t.0 word t.2 in
+    subst (λ w. test w ≡ true) g.1 g.0
 
 signed_taken : (bytes : List ℕ) (s : Signed) → signed_at bytes ≡ Ok s → IsSigned bytes s
 unfolding signed_at
@@ -231,6 +241,7 @@ signed_taken bytes s e =
     let made : IsSigned bytes (signed b.0.0 c.0.0 (length bytes - length b.0.1)) = record {
       spelled = u ∙ ap (λ r. unsigned b.0.0 ++ r) last;
       before = ap₂ take size u ∙ take-append_seam (unsigned b.0.0) b.0.1;
+      form = word_form (codes "sha256 ") is_digest b.0.1 c.0.0 c.0.1 c.1;
     } in
     subst (IsSigned bytes) g.1 made
 
@@ -243,19 +254,6 @@ read_is x y e = cc
 given_read : (b : Bool) (x y : PackageView) (d : RecordError) → cond b (read_as x) (Err d) ≡ Ok y → (b ≡ true) × (x ≡ y)
 given_read true x y d e = (refl, read_is x y e)
 given_read false x y d e = absurd cc
-
-abbrev refused : List ℕ → List ℕ → Result PackageView RecordError
-refused a b = Err (records.BadDigest a b)
-
-first_is : (a b c d : List ℕ) → refused a b ≡ refused c d → a ≡ c
-first_is a b c d e = cc
-
-second_is : (a b c d : List ℕ) → refused a b ≡ refused c d → b ≡ d
-second_is a b c d e = cc
-
-given_other : (t : Bool) (x : PackageView) (a b c d : List ℕ) → cond t (Ok x) (refused a b) ≡ refused c d → (t ≡ false) × (a ≡ c) × (b ≡ d)
-given_other true x a b c d e = absurd cc
-given_other false x a b c d e = (refl, first_is a b c d e, second_is a b c d e)
 
 judged_ok : (bytes : List ℕ) (r : Result Signed Fault) (p : PackageView) → judged bytes r ≡ Ok p → (s : Signed) × (r ≡ Ok s) × (s.stated ≡ digest_of s.size bytes) × (s.read ≡ p)
 unfolding judged
@@ -275,29 +273,8 @@ pub is_spelled : (bytes : List ℕ) (r : Result PackageView RecordError) → IfO
 is_spelled bytes (Ok p) h = found_spelled bytes p h
 is_spelled bytes (Err e) h = tt
 
-judged_err : (bytes : List ℕ) (r : Result Signed Fault) (stated found : List ℕ) → judged bytes r ≡ Err (records.BadDigest stated found) → (s : Signed) × (r ≡ Ok s) × (s.stated ≡ stated) × (digest_of s.size bytes ≡ found) × (stated ≢ found)
-unfolding judged
-judged_err bytes (Err Short) stated found e = absurd cc
-judged_err bytes (Err (Misfit left)) stated found e = absurd cc
-judged_err bytes (Ok s) stated found e =
-    let g = given_other (bytes_eq s.stated (digest_of s.size bytes)) s.read s.stated (digest_of s.size bytes) stated found e in
-    let differs : s.stated ≡ digest_of s.size bytes → ⊥ = λ q. let yes = (bytes_eq-Decides s.stated (digest_of s.size bytes)).1 q in let no = g.0 in let both : true ≡ false = sym yes ∙ no in cc in
-    (s, refl, g.1, g.2, λ q. differs (g.1 ∙ q ∙ sym g.2))
-
-for_digest : (bytes : List ℕ) (e : RecordError) → (e ≢ records.NoMemory → record_of bytes ≡ Err e) → IsForDigest bytes e
-for_digest bytes records.Short h = tt
-for_digest bytes (records.BadField place) h = tt
-for_digest bytes (records.BadDigest stated found) h =
-    let j = judged_err bytes (signed_at bytes) stated found (h (λ q. absurd cc)) in
-    let t = signed_taken bytes j.0 j.1 in
-    record {
-      read = j.0.read;
-      spelled = t.spelled ∙ ap (λ d. signed_with d j.0.read) j.2;
-      digest = sym j.3 ∙ ap (λ b. encode_lower (sha256 b)) t.before;
-      differs = j.4;
-    }
-for_digest bytes records.NoMemory h = tt
-
-pub is_for_digest : (bytes : List ℕ) (r : Result PackageView RecordError) → IfErr r (λ e. e ≢ records.NoMemory → record_of bytes ≡ Err e) → IfErr r (λ e. IsForDigest bytes e)
-is_for_digest bytes (Ok p) h = tt
-is_for_digest bytes (Err e) h = for_digest bytes e h
+-- what states another digest than that of its lines
+pub has_other_digest : (bytes found : List ℕ) (s : Signed) → signed_at bytes ≡ Ok s → IsPackage s.read → found ≡ digest_of s.size bytes → s.stated ≢ found → HasOtherDigest bytes s.stated found
+has_other_digest bytes found s e facts is differs =
+    let t = signed_taken bytes s e in
+    record { read = s.read; facts = facts; form = t.form; spelled = t.spelled; digest = is ∙ ap (λ b. encode_lower (sha256 b)) t.before; differs = differs }

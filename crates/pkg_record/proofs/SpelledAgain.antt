@@ -250,7 +250,7 @@ from_name_again p rest h =
     ap (λ r. r >>= λ name. from_origin name.0 name.1) (word_line_again (codes "name ") is_package_name p.name (after_name p rest) refl (plain_line p.name (package_name_plain p.name form)) form)
     ∙ from_origin_again p rest h
 
-unsigned_again : (p : PackageView) (rest : List ℕ) → HasRecord p → unsigned_at (unsigned p ++ rest) ≡ Ok (p, rest)
+pub unsigned_again : (p : PackageView) (rest : List ℕ) → HasRecord p → unsigned_at (unsigned p ++ rest) ≡ Ok (p, rest)
 unfolding unsigned_at
 unsigned_again p rest h =
     ap unsigned_at (regrouped p rest)
@@ -272,18 +272,23 @@ one_record p q more h k e =
     let same : p ≡ q = pair_is p q (last_p ++ more) last_q (sym (unsigned_again p (last_p ++ more) h) ∙ ap unsigned_at (sym (append_assoc (unsigned p) last_p more) ∙ sym e) ∙ unsigned_again q last_q k) in
     (same, nil_from_length more (omega (arith, ap length (ap spelling same ∙ e), length-append (spelling p) more)))
 
-digest_form : (bytes : List ℕ) → is_digest (encode_lower (sha256 bytes)) ≡ true
+pub digest_form : (bytes : List ℕ) → is_digest (encode_lower (sha256 bytes)) ≡ true
 digest_form bytes = sized (encode_lower (sha256 bytes)) (length-encode_with lower_digits (sha256 bytes) ∙ ap (λ n. 2 * n) (length-sha256 bytes)) (hex_bytes (sha256 bytes) (sha256_bytes bytes))
   where
     sized : (text : List ℕ) → length text ≡ 64 → list_all is_hex_byte text ≡ true → is_digest text ≡ true
     sized text size h = both_true _ _ (both_true _ _ (ap (nat_le 64) size) (ap (λ n. nat_le n 64) size)) h
 
-signed_again : (p : PackageView) (stated : List ℕ) → HasRecord p → is_digest stated ≡ true → signed_at (signed_with stated p) ≡ Ok (signed p stated (length (unsigned p)))
+pub last_line_again : (stated : List ℕ) → is_digest stated ≡ true → said_at (word_behind (codes "sha256 ") is_digest) (line (codes "sha256 " ++ stated)) ≡ Ok (stated, [])
+last_line_again stated d =
+    let last = line (codes "sha256 " ++ stated) in
+    ap (said_at (word_behind (codes "sha256 ") is_digest)) (sym (append-nil last)) ∙ word_line_again (codes "sha256 ") is_digest stated [] refl (plain_line stated (digest_text stated d)) d
+
+pub signed_again : (p : PackageView) (stated : List ℕ) → HasRecord p → is_digest stated ≡ true → signed_at (signed_with stated p) ≡ Ok (signed p stated (length (unsigned p)))
 unfolding signed_at
 signed_again p stated h d =
     let last = line (codes "sha256 " ++ stated) in
     let whole = unsigned p ++ last in
-    let ended : said_at (word_behind (codes "sha256 ") is_digest) last ≡ Ok (stated, []) = ap (said_at (word_behind (codes "sha256 ") is_digest)) (sym (append-nil last)) ∙ word_line_again (codes "sha256 ") is_digest stated [] refl (plain_line stated (digest_text stated d)) d in
+    let ended : said_at (word_behind (codes "sha256 ") is_digest) last ≡ Ok (stated, []) = last_line_again stated d in
     ap (λ r. r >>= λ x. said_at (word_behind (codes "sha256 ") is_digest) x.1 >>= λ digest. cond (length digest.1 == 0) (Ok (signed x.0 digest.0 (length whole - length x.1))) (Err (Misfit (length digest.1)))) (unsigned_again p last h)
     ∙ ap (λ r. r >>= λ digest. cond (length digest.1 == 0) (Ok (signed p digest.0 (length whole - length last))) (Err (Misfit (length digest.1)))) ended
     ∙ ap (λ n. Ok (signed p stated n)) (omega (arith, length-append (unsigned p) last))

@@ -73,7 +73,7 @@ same_bytes a b h = (bytes_eq-Decides a b).0 h
 cut_there : (mark : ℕ) (text : List ℕ) → position_or_len (is_mark mark) text < length text → text ≡ front mark text ++ mark ∷ back mark text
 cut_there mark text l = split_at_first (is_mark mark) text 0 l ∙ ap (λ b. front mark text ++ b ∷ back mark text) (eqb-true _ _ (passes_at_first (is_mark mark) text 0 l))
 
-below : (a b : ℕ) → ltb a b ≡ true → a < b
+pub below : (a b : ℕ) → ltb a b ≡ true → a < b
 below a b h = grind (arith, nat_tests)
 
 pub line_taken : (bytes text rest : List ℕ) → line_at bytes ≡ Ok (text, rest) → bytes ≡ line text ++ rest
@@ -83,7 +83,7 @@ line_taken bytes text rest e =
     ∙ ap (λ (x : List ℕ × List ℕ). x.0 ++ 10 ∷ x.1) g.1
     ∙ sym (append_assoc text (10 ∷ []) rest)
 
-fits : {X : Type 0} (left : ℕ) (r : List ℕ) (o : Option X) (x : X) (rest : List ℕ) → fitting left r o ≡ Ok (x, rest) → (o ≡ Some x) × (r ≡ rest)
+pub fits : {X : Type 0} (left : ℕ) (r : List ℕ) (o : Option X) (x : X) (rest : List ℕ) → fitting left r o ≡ Ok (x, rest) → (o ≡ Some x) × (r ≡ rest)
 fits left r (Some y) x rest e = let p = ok_is (y, r) (x, rest) e in (ap (λ q. Some q.0) p, ap (λ q. q.1) p)
 fits left r None x rest e = absurd cc
 
@@ -230,7 +230,7 @@ file_taken text size path filled e =
     ∙ ap (λ w. codes "file " ++ w) (cut ∙ ap₂ (λ d p. d ++ 32 ∷ p) digits same_path)
     ∙ spaced (codes "file ") (decimal size) path
 
-chosen_ok : {A : Type 0} (b : Bool) (r : Result A Fault) (d : Fault) (y : A) → cond b r (Err d) ≡ Ok y → (b ≡ true) × (r ≡ Ok y)
+pub chosen_ok : {A : Type 0} (b : Bool) (r : Result A Fault) (d : Fault) (y : A) → cond b r (Err d) ≡ Ok y → (b ≡ true) × (r ≡ Ok y)
 chosen_ok true r d y e = (refl, e)
 chosen_ok false r d y e = absurd cc
 

@@ -1,9 +1,11 @@
 // A package out of its record.
-ghost use Rattle.std.specs.Prelude.{◌≡◌, ◌≢◌, ◌≤◌, List, ℕ, [], ◌++◌, length, IfOk, IfErr, MatchResult};
+ghost use Rattle.std.specs.Prelude.{◌≡◌, ◌≢◌, ◌≤◌, List, ℕ, [], ◌++◌, length, IfOk, IfErr, IsTrue, MatchResult};
 ghost use Rattle.sha2.specs.Sha256.{sha256};
 ghost use Rattle.hex.specs.Hex.{encode_lower};
-ghost use Rattle.bulk_model.specs.Spelling.{spelling};
-ghost use Rattle.pkg_record.specs.Laws.{HasRecord, IsForDigest};
+ghost use Rattle.bulk_model.specs.Spelling.{unsigned, signed_with, spelling};
+ghost use Rattle.pkg_record.specs.declared.fault.RecordError.TheVariants.{BadDigest};
+ghost use Rattle.pkg_record.specs.Forms.{is_digest};
+ghost use Rattle.pkg_record.specs.Laws.{HasRecord, IsForDigest, IsRefusedAs};
 ghost use Rattle.bulk_model.specs.Views.{PackageView};
 ghost use Rattle.pkg_record.specs.Reading.{Gives, unsigned_at, signed_at, signed, record_of};
 
@@ -64,6 +66,7 @@ fn digest_text(alloc: Global, bytes: &[u8]) -> Result<Text, NoMemory>
 fn judged(alloc: Global, bytes: &[u8]) -> Result<Package, RecordError>
     ensures ok { IfOk result (λ p. record_of bytes.now ≡ Ok p) }
     ensures err { IfErr result (λ e. e ≢ RecordError.NoMemory → record_of bytes.now ≡ Err e) }
+    ensures digest { IfErr result (λ e. IsForDigest bytes.now e) }
 {
     match whole(alloc, bytes) {
         Ok((built, stated, size)) => {
@@ -94,6 +97,12 @@ pub fn read(alloc: Global, bytes: &[u8]) -> Result<Package, RecordError>
     ensures only { (p : PackageView) → HasRecord p → bytes.now ≡ spelling p → MatchResult result (λ x. x ≡ p) (λ e. e ≡ RecordError.NoMemory) }
     // What is refused for its digest is a package's record but for that.
     ensures digest { IfErr result (λ e. IsForDigest bytes.now e) }
+    // What is a package's record but for the 64 digits at its end is refused for them.
+    ensures other_digest { (p : PackageView) (stated : List ℕ) → HasRecord p → IsTrue (is_digest stated) → stated ≢ encode_lower (sha256 (unsigned p)) → bytes.now ≡ signed_with stated p
+        → IsRefusedAs result (BadDigest stated (encode_lower (sha256 (unsigned p)))) }
+    // What a record begins with and is not all of it, is Short, whichever digest the record states.
+    ensures cut { (p : PackageView) (stated more : List ℕ) → HasRecord p → IsTrue (is_digest stated) → signed_with stated p ≡ bytes.now ++ more → more ≢ [] → IsRefusedAs result RecordError.Short }
+    ensures cut_record { (p : PackageView) (more : List ℕ) → HasRecord p → spelling p ≡ bytes.now ++ more → more ≢ [] → IsRefusedAs result RecordError.Short }
     // Which answer it is, from left to right.
     ensures ok { IfOk result (λ p. record_of bytes.now ≡ Ok p) }
     ensures err { IfErr result (λ e. e ≢ RecordError.NoMemory → record_of bytes.now ≡ Err e) }

@@ -1,4 +1,4 @@
-use Rattle.dep_graph.proofs.OrderLaws.{prefix_closed, chains_fall, installs_before}
+use Rattle.dep_graph.proofs.OrderLaws.{prefix_closed, chains_fall, installs_before, loopless_plan}
 use Rattle.dep_graph.proofs.law.laws.Goals as goal
 
 pub returns-clause-prefix : goal.returns-clause-prefix
@@ -9,3 +9,6 @@ returns-clause-chains c = chains_fall
 
 pub returns-clause-installed : goal.returns-clause-installed
 returns-clause-installed c = installs_before
+
+pub returns-clause-loopless : goal.returns-clause-loopless
+returns-clause-loopless c = loopless_plan

@@ -1,12 +1,29 @@
-use Rattle.pkg_record.proofs.SpelledAgain.{is_read}
-use Rattle.pkg_record.proofs.Spelled.{is_spelled, is_for_digest}
+use Rattle.std.proofs.Common.{ap, ◌∙◌}
+use Rattle.hex.specs.Hex.{encode_lower}
+use Rattle.sha2.specs.Sha256.{sha256}
+use Rattle.bulk_model.specs.Spelling.{unsigned}
+use Rattle.pkg_record.specs.Reading.{record_of}
+use Rattle.pkg_record.specs.declared.fault.RecordError.TheVariants.{Short, BadDigest}
+use Rattle.pkg_record.proofs.SpelledAgain.{is_read, digest_form}
+use Rattle.pkg_record.proofs.Spelled.{is_spelled}
+use Rattle.pkg_record.proofs.Refused.{is_refused, short_front, other_digest}
 use Rattle.pkg_record.proofs.record_reader.read.Goals as goal
 
 pub returns-clause-spelled : goal.returns-clause-spelled
 returns-clause-spelled c = is_spelled c.args.bytes.now c.judged.result c.judged.ensures.ok
 
-pub returns-clause-digest : goal.returns-clause-digest
-returns-clause-digest c = is_for_digest c.args.bytes.now c.judged.result c.judged.ensures.err
-
 pub returns-clause-only : goal.returns-clause-only
 returns-clause-only c = is_read c.args.bytes.now c.judged.result c.judged.ensures.ok c.judged.ensures.err
+
+pub returns-clause-other_digest : goal.returns-clause-other_digest
+returns-clause-other_digest c = λ p stated h d n e.
+    is_refused c.args.bytes.now c.judged.result (BadDigest stated (encode_lower (sha256 (unsigned p)))) c.judged.ensures.ok c.judged.ensures.err (ap record_of e ∙ other_digest p stated h d n)
+
+pub returns-clause-cut : goal.returns-clause-cut
+returns-clause-cut c = λ p stated more h d e some.
+    is_refused c.args.bytes.now c.judged.result Short c.judged.ensures.ok c.judged.ensures.err (short_front p stated c.args.bytes.now more some h d e)
+
+pub returns-clause-cut_record : goal.returns-clause-cut_record
+returns-clause-cut_record c = λ p more h e some.
+    is_refused c.args.bytes.now c.judged.result Short c.judged.ensures.ok c.judged.ensures.err
+    (short_front p (encode_lower (sha256 (unsigned p))) c.args.bytes.now more some h (digest_form (unsigned p)) e)

@@ -1,7 +1,0 @@
-use Rattle.std.proofs.Common.{◌≡◌, ◌++◌, take}
-use Rattle.std.specs.List.{flat_map}
-use Rattle.bulk_model.specs.Spelling.{file_piece}
-use Rattle.bulk_run.proofs.record_writer.put_files.Given as goal
-
-abbrev pub invariant-loop-file : goal.invariant-loop-file
-invariant-loop-file l = l.out.items ≡ l.initial.out.items ++ flat_map file_piece (take l.file-index l.files)

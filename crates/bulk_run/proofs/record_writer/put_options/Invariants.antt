@@ -1,7 +1,0 @@
-use Rattle.std.proofs.Common.{◌≡◌, ◌++◌, take}
-use Rattle.std.specs.List.{flat_map}
-use Rattle.bulk_model.specs.Spelling.{option_line}
-use Rattle.bulk_run.proofs.record_writer.put_options.Given as goal
-
-abbrev pub invariant-loop-option : goal.invariant-loop-option
-invariant-loop-option l = l.out.items ≡ l.initial.out.items ++ flat_map option_line (take l.option-index l.options)

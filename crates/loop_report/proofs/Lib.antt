@@ -1,0 +1,9 @@
+pub mod WalkSteps
+pub mod Least
+pub mod Repeating
+pub mod Agreeing
+pub mod Existing
+pub mod GoingOn
+pub mod Choosing
+pub mod Rounding
+pub mod Reporting
