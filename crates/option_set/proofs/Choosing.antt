@@ -1,5 +1,5 @@
 -- What the steps of the choice answer is what the definitions say.
-use Rattle.std.proofs.Common.{◌≡◌, ℕ, List, length, ap, sym, subst, ◌∙◌}
+use Rattle.std.proofs.Common.{◌≡◌, ℕ, List, length, ap, ◌∙◌}
 use Rattle.std.specs.Prelude.{filter, codes, IfOk}
 use Rattle.std.specs.declared.result.Result.{Result}
 use Rattle.std.specs.declared.result.Result.TheVariants.{Ok, Err}
@@ -13,7 +13,7 @@ use Rattle.option_set.specs.declared.layers.Layers.{Layers}
 use Rattle.option_set.specs.Layers.{asked}
 use Rattle.option_set.specs.Named.{Words}
 use Rattle.option_set.specs.Defined.{words_in}
-use Rattle.option_set.specs.Implied.{implied_by, names_on, asked_on, on_after, on_in}
+use Rattle.option_set.specs.Implied.{implied_by, names_on, on_after, on_in}
 
 pub on_is : (vars : Vars) (options : List (List ℕ)) (layers : Layers) (default : List (List ℕ)) (switches : List Switch) (begun : List (List ℕ)) (rounds : ℕ) (on : Words)
     → (held : Result (List (List ℕ)) AllocError)

@@ -4,3 +4,4 @@ pub mod Spreading
 pub mod Turning
 pub mod Choosing
 pub mod Rounds
+pub mod Texts

@@ -1,12 +1,11 @@
 -- What is on after some rounds, by what each round turned on.
-use Rattle.std.proofs.Common.{◌≡◌, ℕ, zero, suc, ◌+◌, Bool, true, false, List, [], ◌∷◌, ◌++◌, refl, ap, sym, ◌∙◌}
+use Rattle.std.proofs.Common.{◌≡◌, ℕ, Bool, true, false, List, ◌++◌, refl, ap, sym, ◌∙◌}
 use Rattle.std.specs.Prelude.{◌||◌, ◌&&◌, not}
-use Rattle.std.specs.List.{list_any, flat_map}
+use Rattle.std.specs.List.{flat_map}
 use Rattle.std.specs.FinMap as map
 use Rattle.port_name.specs.Sets.{is_among}
 use Rattle.option_set.specs.Named.{Words}
-use Rattle.option_set.specs.Implied.{on_after}
-use Rattle.option_set.proofs.Among.{any_same, among_append, flat_same, flat_append}
+use Rattle.option_set.proofs.Among.{among_append, flat_same, flat_append}
 
 module _ (implies : List ℕ → List (List ℕ)) where
   -- the names that are on, and those that the last round turned on: what is on implies nothing beyond itself and what the latter imply

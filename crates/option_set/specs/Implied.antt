@@ -1,5 +1,5 @@
 -- What options that are on turn on (Porter's Handbook, "Options"; docs/FORMATS.md).
-use Rattle.std.specs.Prelude.{ℕ, zero, suc, Bool, List, ◌++◌, length, map, filter, codes}
+use Rattle.std.specs.Prelude.{ℕ, zero, suc, List, ◌++◌, length, map, filter, codes}
 use Rattle.std.specs.List.{flat_map}
 use Rattle.bulk_base.specs.declared.file.Switch.{Switch}
 use Rattle.port_vars.specs.Variables.{Vars}

@@ -143,7 +143,11 @@ fn add_members(members: &[Text], found: &mut Vec<u8>) -> Result<(), AllocError> 
     Ok(())
 }
 
-fn add_refusal(alloc: Global, refusal: &OptionError, found: &mut Vec<u8>) -> Result<(), AllocError> {
+fn add_refusal(
+    alloc: Global,
+    refusal: &OptionError,
+    found: &mut Vec<u8>,
+) -> Result<(), AllocError> {
     found.extend_from_slice(refusal.to_string(alloc)?.as_str().as_bytes())?;
     if let OptionError::Group { on, .. } = refusal {
         add_members(on.as_slice(), found)?;
@@ -173,5 +177,20 @@ fn options_by_the_rules(rt: HostRuntime) -> Result<(), Fail> {
         let found = answer(alloc, file.as_slice(), fields.next().unwrap_or_default())?;
         assert!(rt; found.as_slice() == fields.next().unwrap_or_default());
     }
+    Ok(())
+}
+
+#[test]
+fn words_of_variables(rt: HostRuntime) -> Result<(), Fail> {
+    let alloc = rt.alloc();
+    let Ok(vars) = read_vars(alloc, b"A=b  c\nB=\n") else {
+        return Err(Fail::new("the file is outside the form"));
+    };
+    assert_eq!(rt;
+        words_in(alloc, &vars, &Text::from_bytes(alloc, b"A")?)?.len(),
+        2
+    );
+    assert!(rt; words_in(alloc, &vars, &Text::from_bytes(alloc, b"B")?)?.is_empty());
+    assert!(rt; words_in(alloc, &vars, &Text::from_bytes(alloc, b"C")?)?.is_empty());
     Ok(())
 }

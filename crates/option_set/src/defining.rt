@@ -4,7 +4,7 @@ ghost use Rattle.std.specs.List.{flat_map};
 ghost use Rattle.bulk_base.specs.Text.{IsText};
 ghost use Rattle.option_set.specs.Defined as defined;
 
-use crate::read::{words_behind, words_in};
+use crate::read::{words_at, words_behind};
 use bulk_base::{NoMemory, Sequence, Text, Texts};
 use port_vars::Vars;
 use std::alloc::Global;
@@ -41,7 +41,7 @@ fn groups_in(alloc: Global, vars: &Vars, variable: &[u8], prefix: &[u8]) -> Resu
     ensures { IfOk result (λ groups. groups ≡ defined.groups_in vars.now variable.now prefix.now) }
 {
     let mut found = Sequence::new(alloc);
-    let names = words_in(alloc, vars, variable)?;
+    let names = words_at(alloc, vars, variable)?;
     for name in names.as_slice() {
         found.push(Group {
             name: name.copy(alloc)?,
@@ -56,7 +56,7 @@ pub(crate) fn read_defining(alloc: Global, vars: &Vars) -> Result<Defining, NoMe
     ensures { IfOk result (λ defining. defining ≡ defined.defining vars.now) }
 {
     Ok(Defining {
-        alone: words_in(alloc, vars, b"OPTIONS_DEFINE")?,
+        alone: words_at(alloc, vars, b"OPTIONS_DEFINE")?,
         any: groups_in(alloc, vars, b"OPTIONS_GROUP", b"OPTIONS_GROUP_")?,
         single: groups_in(alloc, vars, b"OPTIONS_SINGLE", b"OPTIONS_SINGLE_")?,
         radio: groups_in(alloc, vars, b"OPTIONS_RADIO", b"OPTIONS_RADIO_")?,

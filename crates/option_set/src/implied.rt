@@ -8,7 +8,7 @@ ghost use Rattle.option_set.specs.Implied as implied;
 use crate::asking::asked;
 use crate::layers::Layers;
 use crate::listing::add_copies;
-use crate::read::{words_behind, words_in};
+use crate::read::{words_at, words_behind};
 use bulk_base::{NoMemory, Sequence, Switch, Text, TextMap, Texts};
 use port_vars::Vars;
 use std::alloc::Global;
@@ -104,7 +104,7 @@ pub(crate) fn options_on(
 ) -> Result<Texts, NoMemory>
     ensures { IfOk result (λ on. on ≡ implied.on_in vars.now options.now layers.now) }
 {
-    let default = words_in(alloc, vars, b"OPTIONS_DEFAULT")?;
+    let default = words_at(alloc, vars, b"OPTIONS_DEFAULT")?;
     let asked = asked(alloc, options, &default, layers)?;
     let begun = names_on(alloc, asked.as_slice())?;
     let on = on_after(alloc, vars, begun.as_slice(), options.len())?;

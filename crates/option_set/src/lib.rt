@@ -2,9 +2,9 @@
 #![tactic(auto)]
 
 mod asking;
+mod choice;
 #[cfg(test)]
 mod choice_tests;
-mod choice;
 mod defining;
 mod fault;
 mod group;
@@ -25,3 +25,4 @@ pub use asking::asked;
 pub use choice::choose;
 pub use fault::OptionError;
 pub use layers::Layers;
+pub use read::words_in;

@@ -3,25 +3,14 @@ ghost use Rattle.std.specs.Prelude.{◌≡◌, ◌++◌, IfOk};
 ghost use Rattle.bulk_base.specs.Text.{IsText};
 ghost use Rattle.option_set.specs.Defined as defined;
 
-use bulk_base::{NoMemory, Sequence, Text, TextError, Texts, words};
+use bulk_base::{NoMemory, Sequence, Text, Texts, words};
 use port_vars::Vars;
-use std::alloc::{AllocError, Global};
+use std::alloc::Global;
 
-/// The text with the bytes of a text.
-fn text_of(alloc: Global, bytes: &[u8]) -> Result<Text, NoMemory>
-    requires { IsText bytes.now }
-    ensures { IfOk result (λ text. text ≡ bytes.now) }
-{
-    match Text::from_bytes(alloc, bytes) {
-        Ok(text) => Ok(text),
-        Err(TextError::NoMemory) => Err(AllocError),
-        Err(TextError::NotText) => unreachable!(),
-    }
-}
-
-/// The words of a variable; none where it is not set. A look-up, and one pass over the value.
+/// The words of a variable, split at blanks, in order; none where the variable is not set (docs/FORMATS.md, "Options").
+/// NoMemory for want of memory alone. A look-up, and one pass over the value.
 #[tactic(auto, unfolding(crate::specs::Defined::words_in))]
-fn words_at(alloc: Global, vars: &Vars, variable: &Text) -> Result<Texts, NoMemory>
+pub fn words_in(alloc: Global, vars: &Vars, variable: &Text) -> Result<Texts, NoMemory>
     ensures { IfOk result (λ words. words ≡ defined.words_in vars.now variable.now) }
 {
     match vars.value(variable) {
@@ -31,11 +20,11 @@ fn words_at(alloc: Global, vars: &Vars, variable: &Text) -> Result<Texts, NoMemo
 }
 
 /// The words of the variable with this name.
-pub(crate) fn words_in(alloc: Global, vars: &Vars, variable: &[u8]) -> Result<Texts, NoMemory>
+pub(crate) fn words_at(alloc: Global, vars: &Vars, variable: &[u8]) -> Result<Texts, NoMemory>
     requires { IsText variable.now }
     ensures { IfOk result (λ words. words ≡ defined.words_in vars.now variable.now) }
 {
-    words_at(alloc, vars, &text_of(alloc, variable)?)
+    words_in(alloc, vars, &Text::of(alloc, variable)?)
 }
 
 /// The words of the variable whose name is made of two parts.
@@ -51,5 +40,5 @@ pub(crate) fn words_behind(
 {
     let mut variable = Vec::from_slice(alloc, first)?;
     variable.extend_from_slice(second)?;
-    words_in(alloc, vars, variable.as_slice())
+    words_at(alloc, vars, variable.as_slice())
 }

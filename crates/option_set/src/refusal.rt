@@ -11,7 +11,7 @@ use crate::fault::OptionError;
 use crate::listed::Listed;
 use crate::listing::{add_copies, defining_words};
 use crate::name::is_option_name;
-use crate::read::{words_behind, words_in};
+use crate::read::{words_at, words_behind};
 use bulk_base::{NoMemory, Text, Texts};
 use port_vars::Vars;
 use std::alloc::Global;
@@ -73,7 +73,7 @@ fn add_words_of(
 fn naming_words(alloc: Global, vars: &Vars, options: &[Text]) -> Result<Texts, NoMemory>
     ensures { IfOk result (λ words. words ≡ refused.naming_words vars.now options.now) }
 {
-    let mut found = words_in(alloc, vars, b"OPTIONS_DEFAULT")?;
+    let mut found = words_at(alloc, vars, b"OPTIONS_DEFAULT")?;
     for option in options {
         add_words_of(alloc, vars, option, &mut found)?;
     }
