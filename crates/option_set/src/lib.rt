@@ -1,11 +1,28 @@
-//! Options of ports: which of them the layers of settings turn on.
+//! Options of ports: which of them the layers of settings turn on, and whether their groups allow that.
 #![tactic(auto)]
 
 mod asking;
+mod choice;
+#[cfg(test)]
+mod choice_tests;
+mod defining;
+mod fault;
+mod group;
+mod implied;
 mod layers;
+mod listed;
+mod listing;
+mod name;
+mod order;
+mod prevented;
+mod read;
+mod refusal;
 mod stack;
 #[cfg(test)]
 mod tests;
 
 pub use asking::asked;
+pub use choice::choose;
+pub use fault::OptionError;
 pub use layers::Layers;
+pub use read::words_in;

@@ -24,7 +24,8 @@ pub(crate) struct Stack {
     file: Layer,
 }
 
-fn copies(alloc: Global, texts: &Texts) -> Result<Texts, NoMemory>
+/// Copies of texts.
+pub(crate) fn copies(alloc: Global, texts: &Texts) -> Result<Texts, NoMemory>
     ensures { IfOk result (λ copies. copies ≡ texts.now) }
 {
     let mut found = Sequence::new(alloc);

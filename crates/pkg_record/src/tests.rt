@@ -1,6 +1,7 @@
 // Records that are read and refused, by hand from docs/FORMATS.md, "The package record, version 1".
 use super::*;
 use bulk_model::Package;
+use sha2::{Digest, Sha256};
 use std::alloc::{AllocError, Global};
 use std::test::Fail;
 
@@ -254,5 +255,16 @@ fn a_changed_byte(rt: HostRuntime) -> Result<(), Fail> {
     };
     assert!(rt; stated.is(b"bd720c5d8b71dda2c30333708da9355f1f98f50f7c2f956175c239a33b2f8c6d"));
     assert!(rt; found.is(b"fc6263b7b10c5d763e40f60b71fc37cb509a5deb0d1994f4e425169e30047fb0"));
+    Ok(())
+}
+
+/// The short message of FIPS 180-4's own examples.
+#[test]
+fn the_digest_of_abc(rt: HostRuntime) -> Result<(), Fail> {
+    let digest = hex::encode(rt.alloc(), Sha256::digest(b"abc".as_slice()))?;
+    assert_eq!(rt;
+        digest.as_str(),
+        "ba7816bf8f01cfea414140de5dae2223b00361a396177a9cb410ff61f20015ad"
+    );
     Ok(())
 }

@@ -1,0 +1,5 @@
+use Rattle.option_set.proofs.Texts.{is_text-from_IsText}
+use Rattle.conf_file.proofs.make.words_at.Goals as goal
+
+pub of-requires : goal.of-requires
+of-requires c = is_text-from_IsText c.args.variable.now c.requires

@@ -1,0 +1,10 @@
+//! Settings of the builder: make.conf, and the layers of options that it and an options file ask for.
+#![tactic(auto)]
+
+mod fault;
+mod make;
+#[cfg(test)]
+mod tests;
+
+pub use fault::{ConfError, ConfKind};
+pub use make::{MakeConf, read_make};

@@ -1,0 +1,32 @@
+-- The states of a port's options (Porter's Handbook, "Options"; docs/FORMATS.md).
+use Rattle.std.specs.Prelude.{ℕ, List, map}
+use Rattle.std.specs.declared.option.Option.{Option}
+use Rattle.std.specs.declared.option.Option.TheVariants.{None, Some}
+use Rattle.std.specs.Option.{option_or}
+use Rattle.std.specs.declared.result.Result.{Result}
+use Rattle.std.specs.declared.result.Result.TheVariants.{Ok, Err}
+use Rattle.bulk_base.specs.declared.file.Switch.{Switch}
+use Rattle.port_vars.specs.Variables.{Vars}
+use Rattle.port_name.specs.Sets.{is_among}
+use Rattle.option_set.specs.declared.fault.OptionError.{OptionError}
+use Rattle.option_set.specs.declared.layers.Layers.{Layers}
+use Rattle.option_set.specs.Defined.{defining, options_of}
+use Rattle.option_set.specs.Implied.{on_in}
+use Rattle.option_set.specs.Refused.{words_refused, state_refused}
+
+-- options with their states
+abbrev pub switches : List (List ℕ) → List (List ℕ) → List Switch
+switches options on = map (λ name. record { name = name; on = is_among on name }) options
+
+-- a value, or the refusal
+abbrev pub unless : {A : Type 0} → Option OptionError → A → Result A OptionError
+unless None a = Ok a
+unless (Some refusal) a = Err refusal
+
+-- the options that a port defines with their states, or the first refusal
+unfoldable pub chosen : Vars → Layers → Result (List Switch) OptionError
+chosen vars layers =
+    let d = defining vars in
+    let options = options_of d in
+    let on = on_in vars options layers in
+    unless (option_or (words_refused vars d options) (state_refused vars d on)) (switches options on)

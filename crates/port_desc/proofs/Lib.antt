@@ -1,0 +1,12 @@
+pub mod Turns
+pub mod Texts
+pub mod Refused
+pub mod Flavored
+pub mod Once
+pub mod Targets
+pub mod Lists
+pub mod FlavorLaws
+pub mod EntryLaws
+pub mod Named
+pub mod Variables
+pub mod Described
