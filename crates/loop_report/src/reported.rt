@@ -15,8 +15,8 @@ use std::alloc::Global;
 /// least; None exactly where there is no loop, so that an order of all nodes exists. NoMemory for want of memory alone.
 ///
 /// Of several loops it is the one to which the walk leads that begins at the least node that no order can have and goes
-/// always to the least dependency that no order can have. Nodes that only lead to a loop are not in it. The rule is this
-/// project's own (docs/DEFINITIONS.md): Poudriere stops at a loop too, and does not say which one it names.
+/// always to the least dependency that no order can have. Nodes that only lead to a loop are not in it. Which loop is named
+/// is this project's own rule (docs/DEFINITIONS.md).
 ///
 /// Each node and each edge is looked at a fixed number of times.
 pub fn loop_of(alloc: Global, graph: &Graph) -> Result<Option<Numbers>, NoMemory>
