@@ -1,0 +1,105 @@
+-- The nodes of a ports tree (docs/FORMATS.md, "The tree folder").
+use Rattle.std.specs.Prelude.{◌≡◌, ℕ, Bool, nat_le, List, [], ◌∷◌, ◌++◌, length, take, map, find, bytes_eq, codes, if◌then◌else◌}
+use Rattle.std.specs.List.{fold}
+use Rattle.std.specs.declared.option.Option.{Option}
+use Rattle.std.specs.declared.option.Option.TheVariants.{None, Some}
+use Rattle.std.specs.Option.{option_map_or}
+use Rattle.std.specs.declared.result.Result.{Result}
+use Rattle.std.specs.declared.result.Result.TheVariants.{Ok, Err}
+use Rattle.std.specs.Ordering.{nat_cmp}
+use Rattle.std.specs.Cmp.Lexicographic.{slice_cmp}
+use Rattle.std.specs.FinMap as finite
+use Rattle.bulk_model.specs.declared.reason.Which.TheVariants.{Nodes, FileBytes}
+use Rattle.outside.specs.Contents.{Contents}
+use Rattle.port_vars.specs.Assignment.{◌>>=◌}
+use Rattle.port_name.specs.declared.place.Origin.{Origin}
+use Rattle.conf_file.specs.declared.make.MakeConf.{MakeConf}
+use Rattle.moved_list.specs.declared.line.MovedLine.{MovedLine}
+use Rattle.moved_list.specs.Moved.{moved_of}
+use Rattle.tree_index.specs.declared.fault.IndexError.{IndexError}
+use Rattle.tree_index.specs.declared.fault.IndexError.TheVariants.{BadPort, Limit, DupName}
+use Rattle.tree_index.specs.declared.node.NodeInfo.{NodeInfo}
+use Rattle.tree_index.specs.Places.{categories_file, moved_file, ports_file}
+use Rattle.tree_index.specs.Faults.{moved_fault, refused_as}
+use Rattle.tree_index.specs.VarFiles.{listed_in}
+use Rattle.tree_index.specs.PortNodes.{port_nodes}
+
+-- the most bytes of a file of the tree that has no bound of its own
+abbrev pub most_file_bytes : ℕ
+most_file_bytes = 4194304
+
+-- what MOVED says; more is not read than one byte past the most
+abbrev pub moved_in : List ℕ → Result (List MovedLine) IndexError
+moved_in bytes =
+    if nat_le (length bytes) most_file_bytes then refused_as (moved_fault moved_file) (moved_of bytes)
+    else Err (Limit FileBytes (most_file_bytes + 1))
+
+-- what the tree's MOVED says, nothing where it is absent, or its refusal
+abbrev pub moved_at : Contents → Result (List MovedLine) IndexError
+moved_at content = option_map_or moved_in (finite.get content moved_file) (Ok [])
+
+-- the nodes of ports, one port after another, or the first refusal
+abbrev pub nodes_of_ports : MakeConf → Bool → Contents → List ℕ → List (List ℕ) → Result (List NodeInfo) IndexError
+nodes_of_ports make try_broken content category [] = Ok []
+nodes_of_ports make try_broken content category (port ∷ more) = do
+  nodes ← port_nodes make try_broken content (record { category = category; port = port })
+  others ← nodes_of_ports make try_broken content category more
+  Ok (nodes ++ others)
+
+-- the nodes of categories, one category after another, or the first refusal: a category's list stands before its ports
+abbrev pub nodes_of_categories : MakeConf → Bool → Contents → List (List ℕ) → Result (List NodeInfo) IndexError
+nodes_of_categories make try_broken content [] = Ok []
+nodes_of_categories make try_broken content (category ∷ more) = do
+  ports ← listed_in content (ports_file category)
+  nodes ← nodes_of_ports make try_broken content category ports
+  others ← nodes_of_categories make try_broken content more
+  Ok (nodes ++ others)
+
+-- a finite map from names to nodes
+abbrev pub NodeMap : Type 0
+NodeMap = finite.FinMap (slice_cmp nat_cmp) NodeInfo
+
+-- nodes by their names
+abbrev pub by_name : List NodeInfo → NodeMap
+by_name nodes = fold (λ map node. finite.insert map node.node node) finite.empty nodes
+
+-- nodes in the byte order of their names
+unfoldable pub ordered : List NodeInfo → List NodeInfo
+ordered nodes = finite.values (by_name nodes)
+
+-- at most 16,384 nodes
+abbrev pub few : List NodeInfo → Result (List NodeInfo) IndexError
+few nodes = if nat_le (length nodes) 16384 then Ok nodes else Err (Limit Nodes (length nodes))
+
+-- two nodes have packages of one name
+abbrev pub are_twins : NodeInfo → NodeInfo → Bool
+are_twins a b = bytes_eq a.desc.name b.desc.name
+
+-- the least node that shares its package's name with a later one, and the least such
+abbrev pub first_twins : List NodeInfo → Option (NodeInfo × NodeInfo)
+first_twins [] = None
+first_twins (node ∷ more) = elim (find (are_twins node) more) [
+  | Some other ↦ Some (node, other)
+  | None ↦ first_twins more
+]
+
+-- nodes no two of which have packages of one name
+abbrev pub apart : List NodeInfo → Result (List NodeInfo) IndexError
+apart nodes = elim (first_twins nodes) [
+  | None ↦ Ok nodes
+  | Some twins ↦ Err (DupName twins.0.node twins.1.node twins.0.desc.name)
+]
+
+-- what a tree holds before it is known where dependencies lead: what MOVED says, and the nodes in order
+abbrev pub Listed : Type 0
+Listed = List MovedLine × List NodeInfo
+
+-- the nodes of a tree, or the first refusal in the order of the files
+unfoldable pub tree_nodes : MakeConf → Bool → Contents → Result Listed IndexError
+tree_nodes make try_broken content = do
+  categories ← listed_in content categories_file
+  moved ← moved_at content
+  nodes ← nodes_of_categories make try_broken content categories
+  kept ← few (ordered nodes)
+  told ← apart kept
+  Ok (moved, told)
