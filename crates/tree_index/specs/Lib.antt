@@ -5,4 +5,5 @@ pub mod PortNodes
 pub mod Tree
 pub mod Targets
 pub mod Facts
+pub mod Numbers
 pub mod Index

@@ -22,9 +22,10 @@ pub struct Index {
 
 impl Model for Index {
     ghost use Rattle.tree_index.specs.Index.{IndexView};
-    ghost use Rattle.tree_index.specs.Facts.{IsIndex};
 
     ghost Value = { IndexView };
+
+    ghost use Rattle.tree_index.specs.Facts.{IsIndex};
 
     ghost view = { λ i. record { nodes = i.nodes; moved = i.moved; names = i.names } };
 

@@ -1,0 +1,98 @@
+// Where the dependencies of nodes lead.
+ghost use Rattle.std.specs.Prelude.{◌≡◌, List, IfOk};
+ghost use Rattle.std.specs.FinMap as map;
+ghost use Rattle.tree_index.specs.declared.node.NodeInfo.{NodeInfo as Info};
+ghost use Rattle.tree_index.specs.Targets as aims;
+ghost use Rattle.tree_index.specs.Targets.{number_in, LeadsTo, AreTargets, AreAimed};
+ghost use Rattle.tree_index.specs.Numbers.{IsNumbering};
+
+use crate::node::{At, NodeInfo, NodeInfos, Target, Targets};
+use bulk_base::{NoMemory, Sequence, Text, TextMap};
+use moved_list::{Follow, Moved, follow};
+use port_desc::Entry;
+use port_name::Names;
+use std::alloc::Global;
+
+/// Where a name that means no node leads, by where MOVED leads it.
+fn moved_to(alloc: Global, name: &Text, answer: Follow) -> Result<At, NoMemory>
+    ensures { IfOk result (λ at. at ≡ aims.moved_to name.now answer) }
+{
+    match answer {
+        Follow::At(new) => Ok(At::Moved {
+            old: name.copy(alloc)?,
+            new,
+        }),
+        _ => Ok(At::Nowhere(name.copy(alloc)?)),
+    }
+}
+
+/// Where a name leads: to the node that it means, else where MOVED leads it.
+fn place_of(
+    alloc: Global,
+    numbers: &TextMap<u32>,
+    names: &Names,
+    moved: &Moved,
+    name: &Text,
+) -> Result<At, NoMemory>
+    ensures { IfOk result (λ at. (nodes : List Info) → map.get numbers.now name.now ≡ number_in nodes name.now → LeadsTo nodes names.now moved.now name.now at) }
+{
+    match numbers.get(name) {
+        Some(number) => Ok(At::Node(*number)),
+        None => moved_to(alloc, name, follow(alloc, moved, name, names)?),
+    }
+}
+
+/// The targets of entries, one by one.
+fn targets_of(
+    alloc: Global,
+    numbers: &TextMap<u32>,
+    names: &Names,
+    moved: &Moved,
+    entries: &[Entry],
+) -> Result<Targets, NoMemory>
+    ensures { IfOk result (λ targets. (nodes : List Info) → IsNumbering nodes numbers.now → AreTargets nodes names.now moved.now entries.now targets) }
+{
+    let mut targets = Sequence::new(alloc);
+    for entry in entries {
+        targets.push(Target {
+            kind: entry.kind,
+            at: place_of(alloc, numbers, names, moved, &entry.target)?,
+        })?;
+    }
+    Ok(targets)
+}
+
+/// A node with the targets of its entries.
+fn aim_node(
+    alloc: Global,
+    numbers: &TextMap<u32>,
+    names: &Names,
+    moved: &Moved,
+    mut info: NodeInfo,
+) -> Result<NodeInfo, NoMemory>
+    ensures same { IfOk result (λ aimed. aimed ≡ aims.with_targets info aimed.targets) }
+    ensures targets { IfOk result (λ aimed. (nodes : List Info) → IsNumbering nodes numbers.now → AreTargets nodes names.now moved.now info.desc.entries aimed.targets) }
+{
+    info.targets = targets_of(alloc, numbers, names, moved, info.desc.entries.as_slice())?;
+    Ok(info)
+}
+
+/// Nodes with the targets of their entries, by the numbers of all nodes, all names and what MOVED says.
+///
+/// NoMemory for want of memory alone. Each target costs a look-up of its name, and where it means no node one more for
+/// each name that MOVED leads it to.
+pub(crate) fn aim_nodes(
+    alloc: Global,
+    numbers: &TextMap<u32>,
+    names: &Names,
+    moved: &Moved,
+    nodes: NodeInfos,
+) -> Result<NodeInfos, NoMemory>
+    ensures { IfOk result (λ aimed. (all : List Info) → IsNumbering all numbers.now → AreAimed all names.now moved.now nodes aimed) }
+{
+    let mut aimed = Sequence::new(alloc);
+    for info in nodes.into_vec() {
+        aimed.push(aim_node(alloc, numbers, names, moved, info)?)?;
+    }
+    Ok(aimed)
+}

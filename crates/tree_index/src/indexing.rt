@@ -1,0 +1,70 @@
+// The index of a ports tree, made of its files.
+ghost use Rattle.std.specs.Prelude.{◌≡◌, ◌≢◌, ◌||◌, IsTrue, IfOk, IfErr, Err};
+ghost use Rattle.tree_index.specs.Facts.{AreTreeNodes, IsCaused};
+ghost use Rattle.tree_index.specs.Tree.{tree_nodes};
+ghost use Rattle.tree_index.specs.Targets.{AreAimed};
+ghost use Rattle.tree_index.specs.Index.{IsIndexOf};
+
+use crate::aiming::aim_nodes;
+use crate::fault::IndexError;
+use crate::name_list::names_of;
+use crate::node::NodeInfos;
+use crate::node_numbers::number_nodes;
+use crate::ports_index::Index;
+use crate::tree_reading::read_tree;
+use bulk_base::NoMemory;
+use conf_file::MakeConf;
+use moved_list::Moved;
+use outside::Tree;
+use port_name::Names;
+use std::alloc::Global;
+
+/// The index of the nodes of a tree.
+fn index_of(alloc: Global, moved: Moved, listed: NodeInfos) -> Result<Index, NoMemory>
+    requires { AreTreeNodes listed }
+    ensures moved { IfOk result (λ index. index.moved ≡ moved) }
+    ensures aimed { IfOk result (λ index. AreAimed listed index.names moved listed index.nodes) }
+{
+    let names = Names::new(alloc, names_of(alloc, listed.as_slice())?)?;
+    let numbers = number_nodes(alloc, listed.as_slice())?;
+    let nodes = aim_nodes(alloc, &numbers, &names, &moved, listed)?;
+    Ok(Index {
+        nodes,
+        moved,
+        names,
+    })
+}
+
+/// Reads a whole ports tree (docs/FORMATS.md, "The index of a ports tree"). Ports that are marked as broken are tried where
+/// `try_broken` says so or make.conf sets TRYBROKEN.
+///
+/// TreeFault exactly where the tree failed, NoMemory for want of memory alone. Else the first refusal is answered:
+///
+/// 1. that of `ports/subdir.vars`
+/// 2. that of `ports/MOVED`, which may be absent: BadPort with BadMoved at its first bad line, or Limit FileBytes with
+///    4,194,305 where it has more than 4,194,304 bytes
+/// 3. for each category, in byte order, that of its `subdir.vars`; then for each of its ports, in byte order, that of the
+///    port's options file, which may be absent, and of its `port.vars`: the lines, Missing, FLAVORS, the options, and then the
+///    checks of each flavor in the order of FLAVORS
+/// 4. Limit Nodes with the whole count, where there are more than 16,384 nodes
+/// 5. DupName with the least node that shares its package's name with another, and the least of the others
+///
+/// A file that has to be there and is not is BadPort with Absent, and a word of SUBDIR that is no name BadPort with BadValue,
+/// both at line 0. A dependency whose target means no node and leads to none by MOVED is no refusal.
+///
+/// Each file is read once; the bytes cost what `read_vars`, `read_moved` and `describe` take. For n nodes O(n log n)
+/// comparisons of names, O(log n) more for each dependency, and for one that MOVED leads on as many for each name on the way.
+pub fn index<T: Tree>(
+    alloc: Global,
+    tree: &mut T,
+    make: &MakeConf,
+    try_broken: bool,
+) -> Result<Index, IndexError>
+    ensures ok { IsTrue T.tells → IfOk result (IsIndexOf make.now (make.now.try_broken || try_broken) (T.content tree.old)) }
+    ensures refused { IsTrue T.tells → IfErr result (λ e. e ≢ IndexError.NoMemory → e ≢ IndexError.TreeFault → tree_nodes make.now (make.now.try_broken || try_broken) (T.content tree.old) ≡ Err e) }
+    ensures same { T.content tree.new ≡ T.content tree.old }
+    ensures cause { IsCaused (T.faults tree.old) (T.faults tree.new) result }
+{
+    let (moved, listed) = read_tree(alloc, tree, make, make.try_broken || try_broken)?;
+    Ok(index_of(alloc, moved, listed)?)
+}
