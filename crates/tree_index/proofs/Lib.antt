@@ -1,3 +1,4 @@
 pub mod Numbered
 pub mod Known
 pub mod Aimed
+pub mod Ordered

@@ -5,8 +5,9 @@ use Rattle.std.specs.Option.{option_or}
 use Rattle.std.specs.Ordering.{nat_cmp}
 use Rattle.std.specs.Cmp.Lexicographic.{slice_cmp}
 use Rattle.std.specs.FinMap.{FinMap, get}
+use Rattle.port_name.specs.Sets.{is_among}
 use Rattle.tree_index.specs.declared.node.NodeInfo.{NodeInfo}
-use Rattle.tree_index.specs.Targets.{number_in}
+use Rattle.tree_index.specs.Targets.{number_in, names_of}
 
 -- a finite map from names to numbers
 abbrev pub Numbers : Type 0
@@ -19,3 +20,8 @@ IsNumbering nodes numbers = (name : List ℕ) → get numbers name ≡ number_in
 -- each name that passes a test and has no number gets one; the others stay as they are
 abbrev pub Gains : Numbers → (List ℕ → Bool) → ℕ → Numbers → Type 0
 Gains old test number new = (name : List ℕ) → get new name ≡ option_or (get old name) (if test name then Some number else None)
+
+-- numbers and names are those of nodes
+pub record AreOf (nodes : List NodeInfo) (numbers : Numbers) (names : List (List ℕ)) : Type 0 where
+  pub numbering : IsNumbering nodes numbers
+  pub known : (name : List ℕ) → is_among names name ≡ is_among (names_of nodes) name

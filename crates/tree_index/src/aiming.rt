@@ -1,10 +1,9 @@
 // Where the dependencies of nodes lead.
-ghost use Rattle.std.specs.Prelude.{◌≡◌, List, IfOk};
-ghost use Rattle.std.specs.FinMap as map;
+ghost use Rattle.std.specs.Prelude.{◌≡◌, List, map, IfOk};
 ghost use Rattle.tree_index.specs.declared.node.NodeInfo.{NodeInfo as Info};
 ghost use Rattle.tree_index.specs.Targets as aims;
-ghost use Rattle.tree_index.specs.Targets.{number_in, LeadsTo, AreTargets, AreAimed};
-ghost use Rattle.tree_index.specs.Numbers.{IsNumbering};
+ghost use Rattle.tree_index.specs.Targets.{target_of, with_targets};
+ghost use Rattle.tree_index.specs.Numbers.{AreOf};
 
 use crate::node::{At, NodeInfo, NodeInfos, Target, Targets};
 use bulk_base::{NoMemory, Sequence, Text, TextMap};
@@ -34,7 +33,7 @@ fn place_of(
     moved: &Moved,
     name: &Text,
 ) -> Result<At, NoMemory>
-    ensures { IfOk result (λ at. (nodes : List Info) → map.get numbers.now name.now ≡ number_in nodes name.now → LeadsTo nodes names.now moved.now name.now at) }
+    ensures { IfOk result (λ at. (nodes : List Info) → AreOf nodes numbers.now names.now → at ≡ aims.place_of nodes moved.now name.now) }
 {
     match numbers.get(name) {
         Some(number) => Ok(At::Node(*number)),
@@ -50,7 +49,7 @@ fn targets_of(
     moved: &Moved,
     entries: &[Entry],
 ) -> Result<Targets, NoMemory>
-    ensures { IfOk result (λ targets. (nodes : List Info) → IsNumbering nodes numbers.now → AreTargets nodes names.now moved.now entries.now targets) }
+    ensures { IfOk result (λ targets. (nodes : List Info) → AreOf nodes numbers.now names.now → targets ≡ map (target_of nodes moved.now) entries.now) }
 {
     let mut targets = Sequence::new(alloc);
     for entry in entries {
@@ -70,14 +69,13 @@ fn aim_node(
     moved: &Moved,
     mut info: NodeInfo,
 ) -> Result<NodeInfo, NoMemory>
-    ensures same { IfOk result (λ aimed. aimed ≡ aims.with_targets info aimed.targets) }
-    ensures targets { IfOk result (λ aimed. (nodes : List Info) → IsNumbering nodes numbers.now → AreTargets nodes names.now moved.now info.desc.entries aimed.targets) }
+    ensures { IfOk result (λ aimed. (nodes : List Info) → AreOf nodes numbers.now names.now → aimed ≡ with_targets info (aims.targets_of nodes moved.now info)) }
 {
     info.targets = targets_of(alloc, numbers, names, moved, info.desc.entries.as_slice())?;
     Ok(info)
 }
 
-/// Nodes with the targets of their entries, by the numbers of all nodes, all names and what MOVED says.
+/// Nodes with the targets of their entries, by the numbers of all nodes, their names and what MOVED says.
 ///
 /// NoMemory for want of memory alone. Each target costs a look-up of its name, and where it means no node one more for
 /// each name that MOVED leads it to.
@@ -88,7 +86,7 @@ pub(crate) fn aim_nodes(
     moved: &Moved,
     nodes: NodeInfos,
 ) -> Result<NodeInfos, NoMemory>
-    ensures { IfOk result (λ aimed. (all : List Info) → IsNumbering all numbers.now → AreAimed all names.now moved.now nodes aimed) }
+    ensures { IfOk result (λ aimed. AreOf nodes numbers.now names.now → aimed ≡ aims.aimed nodes moved.now) }
 {
     let mut aimed = Sequence::new(alloc);
     for info in nodes.into_vec() {

@@ -1,9 +1,7 @@
 // The index of a ports tree, made of its files.
-ghost use Rattle.std.specs.Prelude.{◌≡◌, ◌≢◌, ◌||◌, IsTrue, IfOk, IfErr, Err};
+ghost use Rattle.std.specs.Prelude.{◌≡◌, ◌≢◌, ◌||◌, IsTrue, IfOk, IfErr, Ok, Err};
 ghost use Rattle.tree_index.specs.Facts.{AreTreeNodes, IsCaused};
-ghost use Rattle.tree_index.specs.Tree.{tree_nodes};
-ghost use Rattle.tree_index.specs.Targets.{AreAimed};
-ghost use Rattle.tree_index.specs.Index.{IsIndexOf};
+ghost use Rattle.tree_index.specs.Index.{index_with, index_of};
 
 use crate::aiming::aim_nodes;
 use crate::fault::IndexError;
@@ -20,10 +18,9 @@ use port_name::Names;
 use std::alloc::Global;
 
 /// The index of the nodes of a tree.
-fn index_of(alloc: Global, moved: Moved, listed: NodeInfos) -> Result<Index, NoMemory>
+fn index_with(alloc: Global, moved: Moved, listed: NodeInfos) -> Result<Index, NoMemory>
     requires { AreTreeNodes listed }
-    ensures moved { IfOk result (λ index. index.moved ≡ moved) }
-    ensures aimed { IfOk result (λ index. AreAimed listed index.names moved listed index.nodes) }
+    ensures { IfOk result (λ index. index ≡ index_with (moved, listed)) }
 {
     let names = Names::new(alloc, names_of(alloc, listed.as_slice())?)?;
     let numbers = number_nodes(alloc, listed.as_slice())?;
@@ -60,11 +57,11 @@ pub fn index<T: Tree>(
     make: &MakeConf,
     try_broken: bool,
 ) -> Result<Index, IndexError>
-    ensures ok { IsTrue T.tells → IfOk result (IsIndexOf make.now (make.now.try_broken || try_broken) (T.content tree.old)) }
-    ensures refused { IsTrue T.tells → IfErr result (λ e. e ≢ IndexError.NoMemory → e ≢ IndexError.TreeFault → tree_nodes make.now (make.now.try_broken || try_broken) (T.content tree.old) ≡ Err e) }
+    ensures ok { IsTrue T.tells → IfOk result (λ index. index_of make.now (make.now.try_broken || try_broken) (T.content tree.old) ≡ Ok index) }
+    ensures refused { IsTrue T.tells → IfErr result (λ e. e ≢ IndexError.NoMemory → e ≢ IndexError.TreeFault → index_of make.now (make.now.try_broken || try_broken) (T.content tree.old) ≡ Err e) }
     ensures same { T.content tree.new ≡ T.content tree.old }
     ensures cause { IsCaused (T.faults tree.old) (T.faults tree.new) result }
 {
     let (moved, listed) = read_tree(alloc, tree, make, make.try_broken || try_broken)?;
-    Ok(index_of(alloc, moved, listed)?)
+    Ok(index_with(alloc, moved, listed)?)
 }
