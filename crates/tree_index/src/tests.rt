@@ -1,0 +1,2 @@
+// Tests of whole answers, by tables of cases.
+mod indexes;
