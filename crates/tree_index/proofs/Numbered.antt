@@ -1,7 +1,7 @@
 -- The numbers of nodes, by the names that mean them.
 use Rattle.std.proofs.Common.{◌≡◌, ℕ, ◌+◌, ◌<◌, ◌≤◌, Bool, true, false, List, [], ◌∷◌, ◌++◌, length, take, arith, ◌∙◌, ap, refl, sym, cond, subst, nat_lt, eqb}
 use Rattle.std.specs.Prelude.{Option, Some, None, position, bytes_eq, ◌||◌, ◌&&◌}
-use Rattle.std.specs.Option.{option_or}
+use Rattle.std.specs.Option.{option_or, is_some}
 use Rattle.std.specs.List.{position_or_len}
 use Rattle.std.specs.Ordering.{nat_cmp}
 use Rattle.std.specs.Cmp.Lexicographic.{slice_cmp, nat_list_cmp_total, texts_ties}
@@ -44,28 +44,33 @@ get_put : (numbers : Numbers) (key : List ℕ) (number : ℕ) (name : List ℕ) 
 get_put numbers key number name =
     get-insert nat_list_cmp_total numbers key number name ∙ ap (λ b. cond b (Some number) (map.get numbers name)) (sym (texts_ties name key))
 
-put_case : (numbers : Numbers) (key : List ℕ) (number : ℕ) → map.get numbers key ≡ None → (name : List ℕ) (t : Bool) → bytes_eq name key ≡ t
+put_case : (numbers : Numbers) (key : List ℕ) (number : ℕ) → is_some (map.get numbers key) ≡ false → (name : List ℕ) (t : Bool) → bytes_eq name key ≡ t
     → cond t (Some number) (map.get numbers name) ≡ option_or (map.get numbers name) (cond t (Some number) None)
-put_case numbers key number h name true e =
-    ap (λ o. option_or o (Some number)) (sym h ∙ ap (map.get numbers) (sym ((bytes_eq-Decides name key).0 e)))
+put_case numbers key number h name true e = new_case (map.get numbers name) (ap (λ text. is_some (map.get numbers text)) ((bytes_eq-Decides name key).0 e) ∙ h)
+  where
+    new_case : (o : Option ℕ) → is_some o ≡ false → Some number ≡ option_or o (Some number)
+    new_case None e = refl
+    new_case (Some x) e = cc
 put_case numbers key number h name false e = sym (or_none (map.get numbers name))
 
 -- a name that has no number gains the one that is put
-pub gains_put : (numbers new : Numbers) (key : List ℕ) (number : ℕ) → map.get numbers key ≡ None → new ≡ map.insert numbers key number
+pub gains_put : (numbers new : Numbers) (key : List ℕ) (number : ℕ) → is_some (map.get numbers key) ≡ false → new ≡ map.insert numbers key number
     → Gains numbers (λ name. bytes_eq name key) number new
 gains_put numbers new key number h e = λ name.
     ap (λ m. map.get m name) e ∙ get_put numbers key number name ∙ put_case numbers key number h name (bytes_eq name key) refl
 
-kept_case : (numbers : Numbers) (key : List ℕ) (number has : ℕ) → map.get numbers key ≡ Some has → (name : List ℕ) (t : Bool) → bytes_eq name key ≡ t
+kept_case : (numbers : Numbers) (key : List ℕ) (number : ℕ) → is_some (map.get numbers key) ≡ true → (name : List ℕ) (t : Bool) → bytes_eq name key ≡ t
     → map.get numbers name ≡ option_or (map.get numbers name) (cond t (Some number) None)
-kept_case numbers key number has h name true e =
-    let same : map.get numbers name ≡ Some has = ap (map.get numbers) ((bytes_eq-Decides name key).0 e) ∙ h in
-    same ∙ ap (λ o. option_or o (Some number)) (sym same)
-kept_case numbers key number has h name false e = sym (or_none (map.get numbers name))
+kept_case numbers key number h name true e = has_case (map.get numbers name) (ap (λ text. is_some (map.get numbers text)) ((bytes_eq-Decides name key).0 e) ∙ h)
+  where
+    has_case : (o : Option ℕ) → is_some o ≡ true → o ≡ option_or o (Some number)
+    has_case None e = cc
+    has_case (Some x) e = refl
+kept_case numbers key number h name false e = sym (or_none (map.get numbers name))
 
 -- a name that has a number keeps it
-pub gains_kept : (numbers : Numbers) (key : List ℕ) (number has : ℕ) → map.get numbers key ≡ Some has → Gains numbers (λ name. bytes_eq name key) number numbers
-gains_kept numbers key number has h = λ name. kept_case numbers key number has h name (bytes_eq name key) refl
+pub gains_kept : (numbers : Numbers) (key : List ℕ) (number : ℕ) → is_some (map.get numbers key) ≡ true → Gains numbers (λ name. bytes_eq name key) number numbers
+gains_kept numbers key number h = λ name. kept_case numbers key number h name (bytes_eq name key) refl
 
 both_case : (a : Option ℕ) (s t d : Bool) (number : ℕ) → d ≡ true → option_or (option_or a (cond s (Some number) None)) (cond t (Some number) None)
     ≡ option_or a (cond (s || (d && t)) (Some number) None)

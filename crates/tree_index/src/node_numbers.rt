@@ -12,10 +12,10 @@ use std::alloc::Global;
 fn put_new(numbers: &mut TextMap<u32>, name: Text, number: u32) -> Result<(), NoMemory>
     ensures { OnOk result (Gains numbers.old (λ other. bytes_eq other name) number numbers.new) }
 {
-    if numbers.get(&name).is_none() {
-        numbers.insert(name, number)?;
+    if numbers.get(&name).is_some() {
+        return Ok(());
     }
-    Ok(())
+    numbers.insert(name, number)
 }
 
 /// Gives each name that means a node the node's number, where it has none.
@@ -28,10 +28,10 @@ fn put_node(
     ensures { OnOk result (Gains numbers.old (λ name. is_meant name info.now) number numbers.new) }
 {
     put_new(numbers, info.node.copy(alloc)?, number)?;
-    if info.is_default {
-        put_new(numbers, origin_name(alloc, &info.origin)?, number)?;
+    if !info.is_default {
+        return Ok(());
     }
-    Ok(())
+    put_new(numbers, origin_name(alloc, &info.origin)?, number)
 }
 
 /// The number of the first node that each name means. O(n log n) comparisons for n nodes.
