@@ -1,5 +1,5 @@
 -- Nodes with targets: where these lead, and what the nodes keep.
-use Rattle.std.proofs.Common.{◌≡◌, ℕ, ◌<◌, ◌≤◌, Bool, true, false, List, [], ◌∷◌, ◌++◌, length, arith, ◌∙◌, ap, refl, sym, suc, cond, subst}
+use Rattle.std.proofs.Common.{◌≡◌, ℕ, Bool, true, false, List, [], ◌∷◌, length, arith, ◌∙◌, ap, refl, sym, suc, cond, subst}
 use Rattle.std.specs.Prelude.{Option, Some, None, map, filter, bytes_eq}
 use Rattle.std.specs.List.{AllByRecursion, IsDistinct}
 use Rattle.std.specs.FinMap.{get}
@@ -18,7 +18,9 @@ use Rattle.tree_index.specs.declared.node.At.TheVariants.{Node}
 use Rattle.tree_index.specs.declared.node.Target.{Target}
 use Rattle.tree_index.specs.Places.{origin_name}
 use Rattle.tree_index.specs.Targets.{number_in, names_of, moved_to, place_of, target_of, targets_of, with_targets, aimed}
-use Rattle.tree_index.specs.Numbers.{Numbers, AreOf}
+use Rattle.tree_index.specs.Numbers.{Numbers, IsNumbering, AreOf}
+use Rattle.option_set.specs.Named.{in_order}
+use Rattle.tree_index.specs.Index.{IndexView, index_with}
 use Rattle.tree_index.specs.Facts.{IsNodeInfo, AreTreeNodes, IsAtWithin, IsIndex, is_default_of}
 use Rattle.tree_index.proofs.Known.{number_within}
 
@@ -101,8 +103,8 @@ module _ (targets : NodeInfo → List Target) where
     few = omega (arith, length-map nodes with_those, tree.few);
     apart = subst (IsDistinct bytes_eq) (sym (kept_map (λ node. node.desc.name) (λ _. refl) nodes)) tree.apart;
     one_default =
-      kept_all (λ node. length (filter (is_default_of node.origin) nodes) ≡ 1) (λ node. length (filter (is_default_of node.origin) (map with_those nodes)) ≡ 1)
-      (λ node one. kept_count (is_default_of node.origin) (λ _. refl) nodes ∙ one) nodes tree.one_default;
+        kept_all (λ node. length (filter (is_default_of node.origin) nodes) ≡ 1) (λ node. length (filter (is_default_of node.origin) (map with_those nodes)) ≡ 1)
+        (λ node one. kept_count (is_default_of node.origin) (λ _. refl) nodes ∙ one) nodes tree.one_default;
   }
 
 aimed_within : (all : List NodeInfo) (moved : List MovedLine) (nodes : List NodeInfo)
@@ -116,7 +118,21 @@ pub index_made : (nodes : List NodeInfo) (names : List (List ℕ)) (moved : List
 index_made nodes names moved tree known = record {
   tree = tree_kept (targets_of nodes moved) nodes tree;
   range =
-    subst (λ count. AllByRecursion (λ node. AllByRecursion (λ target. IsAtWithin count target.at) node.targets) (aimed nodes moved))
-    (sym (length-map nodes (λ node. with_targets node (targets_of nodes moved node)))) (aimed_within nodes moved nodes);
+      subst (λ count. AllByRecursion (λ node. AllByRecursion (λ target. IsAtWithin count target.at) node.targets) (aimed nodes moved))
+      (sym (length-map nodes (λ node. with_targets node (targets_of nodes moved node)))) (aimed_within nodes moved nodes);
   known = λ name. known name ∙ ap (λ all. is_among all name) (sym (kept_names (targets_of nodes moved) nodes));
 }
+
+-- numbers and names that were made of nodes are theirs
+pub are_of : (nodes slice : List NodeInfo) (numbers : Numbers) (names list : List (List ℕ)) → slice ≡ nodes → list ≡ names_of slice
+    → ((name : List ℕ) → is_among names name ≡ is_among list name) → IsNumbering slice numbers → AreOf nodes numbers names
+are_of nodes slice numbers names list same listed known numbering =
+    subst (λ some. AreOf some numbers names) same (record { numbering = numbering; known = λ name. known name ∙ ap (λ all. is_among all name) listed })
+
+abbrev view_of : List NodeInfo → List MovedLine → List (List ℕ) → IndexView
+view_of nodes moved names = record { nodes = nodes; moved = moved; names = names }
+
+-- an index is known by its nodes and names
+pub index_is : (listed nodes : List NodeInfo) (names : List (List ℕ)) (moved : List MovedLine) → nodes ≡ aimed listed moved → names ≡ in_order (names_of listed)
+    → view_of nodes moved names ≡ index_with (moved, listed)
+index_is listed nodes names moved p q = ap (λ some. view_of some moved names) p ∙ ap (view_of (aimed listed moved) moved) q

@@ -1,8 +1,8 @@
 -- What the names of a ports tree's index mean.
-use Rattle.std.proofs.Common.{◌≡◌, ℕ, ◌<◌, Bool, true, false, List, [], ◌∷◌, length, get_or, arith, ◌∙◌, ap, refl, sym, suc, cond, subst, nat_lt}
-use Rattle.std.specs.Prelude.{Option, Some, None, position, filter, bytes_eq, ◌||◌, ◌&&◌}
+use Rattle.std.proofs.Common.{◌≡◌, ℕ, ◌<◌, Bool, true, false, List, [], ◌∷◌, length, get_or, arith, ◌∙◌, ap, refl, sym, cond, subst}
+use Rattle.std.specs.Prelude.{Some, position, filter, bytes_eq, ◌||◌, ◌&&◌}
 use Rattle.std.specs.Option.{is_some}
-use Rattle.std.specs.List.{AllByRecursion, list_any, position_or_len}
+use Rattle.std.specs.List.{AllByRecursion, list_any}
 use Rattle.std.proofs.lemmas.List.Quantifiers.{position-Some}
 use Rattle.std.proofs.lemmas.Slice.Eq.{bytes_eq-Decides}
 use Rattle.std.proofs.lemmas.Bool.Decides.{nat_tests}
@@ -59,9 +59,9 @@ default_there origin name e (node ∷ nodes) h = there_case (is_default_of origi
         → 0 < length (cond t (node ∷ filter (is_default_of origin) nodes) (filter (is_default_of origin) nodes))
         → (is_meant name node || list_any (is_meant name) nodes) ≡ true
     there_case true d more l =
-      or_first (is_meant name node) (list_any (is_meant name) nodes)
-      (or_next (bytes_eq name node.node) (node.is_default && bytes_eq name (origin_name node.origin))
-      (subst (λ n. (node.is_default && bytes_eq n (origin_name node.origin)) ≡ true) (sym ((bytes_eq-Decides name (origin_name origin)).0 e)) d))
+        or_first (is_meant name node) (list_any (is_meant name) nodes)
+        (or_next (bytes_eq name node.node) (node.is_default && bytes_eq name (origin_name node.origin))
+        (subst (λ n. (node.is_default && bytes_eq n (origin_name node.origin)) ≡ true) (sym ((bytes_eq-Decides name (origin_name origin)).0 e)) d))
     there_case false d more l = or_next (is_meant name node) (list_any (is_meant name) nodes) (more l)
 
 module _ (nodes : List NodeInfo) (name : List ℕ) where

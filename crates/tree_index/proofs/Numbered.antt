@@ -1,20 +1,21 @@
 -- The numbers of nodes, by the names that mean them.
-use Rattle.std.proofs.Common.{◌≡◌, ℕ, ◌+◌, ◌<◌, ◌≤◌, Bool, true, false, List, [], ◌∷◌, ◌++◌, length, take, arith, ◌∙◌, ap, refl, sym, cond, subst, nat_lt, eqb}
+use Rattle.std.proofs.Common.{◌≡◌, ℕ, ◌+◌, ◌<◌, ◌≤◌, Bool, true, false, List, [], ◌∷◌, ◌++◌, length, take, get_or, arith, ◌∙◌, ap, refl, sym, cond, subst, nat_lt, eqb}
 use Rattle.std.specs.Prelude.{Option, Some, None, position, bytes_eq, ◌||◌, ◌&&◌}
-use Rattle.std.specs.Option.{option_or, is_some}
+use Rattle.std.specs.Borrow.{Bor}
+use Rattle.std.specs.Option.{option_or, option_copied, is_some}
 use Rattle.std.specs.List.{position_or_len}
 use Rattle.std.specs.Ordering.{nat_cmp}
 use Rattle.std.specs.Cmp.Lexicographic.{slice_cmp, nat_list_cmp_total, texts_ties}
 use Rattle.std.specs.FinMap as map
 use Rattle.std.specs.FinMap.{get-insert}
-use Rattle.std.proofs.lemmas.List.{length-append}
+use Rattle.std.proofs.lemmas.List.{length-append, length-take, take_more}
 use Rattle.std.proofs.lemmas.List.Folds.{position_or_len_push}
 use Rattle.std.proofs.lemmas.List.Sums.{prefix_len-le-length}
 use Rattle.std.proofs.lemmas.Slice.Eq.{bytes_eq-Decides}
 use Rattle.std.proofs.lemmas.Bool.Decides.{nat_tests}
 use Rattle.tree_index.specs.declared.node.NodeInfo.{NodeInfo}
 use Rattle.tree_index.specs.Places.{origin_name}
-use Rattle.tree_index.specs.Targets.{is_meant, number_in}
+use Rattle.tree_index.specs.Targets.{is_meant}
 use Rattle.tree_index.specs.Numbers.{Numbers, IsNumbering, Gains}
 
 or_none : {X : Type 0} (o : Option X) → option_or o None ≡ o
@@ -39,6 +40,15 @@ pub numbering_push : (done : List NodeInfo) (info : NodeInfo) (old new : Numbers
     → IsNumbering (done ++ info ∷ []) new
 numbering_push done info old new so_far gains = λ name.
     gains name ∙ ap (λ o. option_or o (cond (is_meant name info) (Some (length done)) None)) (so_far name) ∙ sym (position_push (is_meant name) done info)
+
+-- the same of the nodes before a place and the one there
+pub numbering_at : (nodes : List NodeInfo) (at : ℕ) (info : NodeInfo) (old new : Numbers) → at < length nodes → info ≡ get_or nodes at info → IsNumbering (take at nodes) old
+    → Gains old (λ name. is_meant name info) at new → IsNumbering (take (at + 1) nodes) new
+numbering_at nodes at info old new within here so_far gains =
+    let more : take (at + 1) nodes ≡ take at nodes ++ info ∷ [] = take_more nodes at info within ∙ ap (λ node. take at nodes ++ node ∷ []) (sym here) in
+    let size : at ≡ length (take at nodes) = omega (arith, length-take at nodes) in
+    subst (λ some. IsNumbering some new) (sym more)
+    (numbering_push (take at nodes) info old new so_far (subst (λ n. Gains old (λ name. is_meant name info) n new) size gains))
 
 get_put : (numbers : Numbers) (key : List ℕ) (number : ℕ) (name : List ℕ) → map.get (map.insert numbers key number) name ≡ cond (bytes_eq name key) (Some number) (map.get numbers name)
 get_put numbers key number name =
@@ -96,3 +106,8 @@ pub gains_own : (old new : Numbers) (info : NodeInfo) (number : ℕ) → info.is
     → Gains old (λ name. is_meant name info) number new
 gains_own old new info number default first = λ name.
     first name ∙ ap (λ b. option_or (map.get old name) (cond b (Some number) None)) (own_case (bytes_eq name info.node) (bytes_eq name (origin_name info.origin)) info.is_default default)
+
+-- a look-up finds a value where the map has one
+pub found_is : (o : Option (Bor ℕ)) (found : Option ℕ) → option_copied o ≡ found → is_some o ≡ is_some found
+found_is None found e = ap is_some e
+found_is (Some x) found e = ap is_some e

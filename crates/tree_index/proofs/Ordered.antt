@@ -61,5 +61,5 @@ unfolding in_order
 in_order_are words names sorted same =
     sym (keys_again names sorted)
     ∙ ap finite.keys (same_map nat_list_cmp_total (slice_cmp-IsAntisymmetric nat_cmp-IsAntisymmetric) (view (with_units names)) (set_of words) (λ name.
-      same_unit (finite.get (view (with_units names)) name) (finite.get (set_of words) name)
-      (contains_key-keys (view (with_units names)) name ∙ ap (list_any (eq_by_cmp order name)) (keys_again names sorted) ∙ among_keys name names ∙ same name ∙ sym (has_words words name))))
+    same_unit (finite.get (view (with_units names)) name) (finite.get (set_of words) name)
+    (contains_key-keys (view (with_units names)) name ∙ ap (list_any (eq_by_cmp order name)) (keys_again names sorted) ∙ among_keys name names ∙ same name ∙ sym (has_words words name))))

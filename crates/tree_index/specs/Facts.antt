@@ -1,11 +1,10 @@
 -- What holds of every node of a ports tree, of the nodes of one port and of a whole tree, and of every index.
-use Rattle.std.specs.Prelude.{◌≡◌, ℕ, Bool, ◌&&◌, ◌<◌, ◌≤◌, ◌^◌, List, [], ◌∷◌, length, map, filter, Result, IsTrue, IfSome, IsErrOf, bytes_eq}
+use Rattle.std.specs.Prelude.{◌≡◌, ℕ, Bool, ◌&&◌, ◌<◌, ◌≤◌, List, length, map, filter, Result, IsTrue, IfSome, IsErrOf, bytes_eq}
 use Rattle.std.specs.List.{AllByRecursion, IsDistinct}
 use Rattle.bulk_base.specs.Names.{IsPackageName, is_port_name, is_flavor, node_of}
 use Rattle.outside.specs.Contents.{IsAscending}
 use Rattle.outside.specs.Faults.{Rose}
 use Rattle.bulk_model.specs.Facts.{IsOptionList}
-use Rattle.moved_list.specs.declared.line.MovedLine.{MovedLine}
 use Rattle.port_name.specs.declared.place.Origin.{Origin}
 use Rattle.port_name.specs.Sets.{is_among}
 use Rattle.port_desc.specs.Dependencies.{AreEntries}
@@ -14,7 +13,6 @@ use Rattle.tree_index.specs.declared.fault.IndexError.TheVariants.{TreeFault}
 use Rattle.tree_index.specs.declared.node.NodeInfo.{NodeInfo}
 use Rattle.tree_index.specs.declared.node.At.{At}
 use Rattle.tree_index.specs.declared.node.At.TheVariants.{Node, Nowhere, Moved}
-use Rattle.tree_index.specs.declared.node.Target.{Target}
 use Rattle.tree_index.specs.Places.{origin_name}
 use Rattle.tree_index.specs.Targets.{names_of}
 

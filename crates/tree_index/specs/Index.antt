@@ -1,7 +1,7 @@
 -- The index of a ports tree.
 use Rattle.std.specs.Prelude.{ℕ, Bool, List}
 use Rattle.std.specs.declared.result.Result.{Result}
-use Rattle.std.specs.declared.result.Result.TheVariants.{Ok, Err}
+use Rattle.std.specs.declared.result.Result.TheVariants.{Ok}
 use Rattle.outside.specs.Contents.{Contents}
 use Rattle.port_vars.specs.Assignment.{◌>>=◌}
 use Rattle.conf_file.specs.declared.make.MakeConf.{MakeConf}

@@ -86,7 +86,7 @@ pub(crate) fn aim_nodes(
     moved: &Moved,
     nodes: NodeInfos,
 ) -> Result<NodeInfos, NoMemory>
-    ensures { IfOk result (λ aimed. AreOf nodes numbers.now names.now → aimed ≡ aims.aimed nodes moved.now) }
+    ensures { IfOk result (λ aimed. (all : List Info) → AreOf all numbers.now names.now → aimed ≡ map (λ node. with_targets node (aims.targets_of all moved.now node)) nodes) }
 {
     let mut aimed = Sequence::new(alloc);
     for info in nodes.into_vec() {

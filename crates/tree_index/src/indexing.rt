@@ -22,8 +22,9 @@ fn index_with(alloc: Global, moved: Moved, listed: NodeInfos) -> Result<Index, N
     requires { AreTreeNodes listed }
     ensures { IfOk result (λ index. index ≡ index_with (moved, listed)) }
 {
-    let names = Names::new(alloc, names_of(alloc, listed.as_slice())?)?;
-    let numbers = number_nodes(alloc, listed.as_slice())?;
+    let all = listed.as_slice();
+    let names = Names::new(alloc, names_of(alloc, all)?)?;
+    let numbers = number_nodes(alloc, all)?;
     let nodes = aim_nodes(alloc, &numbers, &names, &moved, listed)?;
     Ok(Index {
         nodes,

@@ -9,6 +9,8 @@ mod node;
 mod node_numbers;
 mod place;
 mod ports_index;
+#[cfg(test)]
+mod tests;
 mod tree_reading;
 
 pub use fault::{IndexError, PortKind};

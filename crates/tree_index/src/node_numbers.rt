@@ -15,7 +15,8 @@ fn put_new(numbers: &mut TextMap<u32>, name: Text, number: u32) -> Result<(), No
     if numbers.get(&name).is_some() {
         return Ok(());
     }
-    numbers.insert(name, number)
+    numbers.insert(name, number)?;
+    Ok(())
 }
 
 /// Gives each name that means a node the node's number, where it has none.
@@ -31,7 +32,8 @@ fn put_node(
     if !info.is_default {
         return Ok(());
     }
-    put_new(numbers, origin_name(alloc, &info.origin)?, number)
+    put_new(numbers, origin_name(alloc, &info.origin)?, number)?;
+    Ok(())
 }
 
 /// The number of the first node that each name means. O(n log n) comparisons for n nodes.

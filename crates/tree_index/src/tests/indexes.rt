@@ -69,7 +69,10 @@ fn push_port(alloc: Global, files: &mut Files, word: &[u8], target: &[u8]) -> Re
     let category = parts.next().unwrap_or_default();
     let port = parts.next().unwrap_or_default();
     let mut vars = Vec::new(alloc);
-    push_all(&mut vars, &[b"PORTVERSION=1\nPORTNAME=", category, b"-", port])?;
+    push_all(
+        &mut vars,
+        &[b"PORTVERSION=1\nPORTNAME=", category, b"-", port],
+    )?;
     push_all(&mut vars, &[b"\nRUN_DEPENDS=", target, b"\n"])?;
     for flavor in parts.next().unwrap_or_default().split(|b| *b == b',') {
         push_all(&mut vars, &[b"FLAVORS+=", flavor, b"\n"])?;
@@ -98,12 +101,22 @@ fn tree(alloc: Global, ports: &[u8], moved: &[u8], target: &[u8]) -> Result<MemT
     let mut all = Vec::from_slice(alloc, b"a/t ")?;
     all.extend_from_slice(ports)?;
     let mut files = Sequence::new(alloc);
-    push_file(alloc, &mut files, b"ports/subdir.vars", Vec::from_slice(alloc, b"SUBDIR=c a b a")?)?;
+    push_file(
+        alloc,
+        &mut files,
+        b"ports/subdir.vars",
+        Vec::from_slice(alloc, b"SUBDIR=c a b a")?,
+    )?;
     push_file(alloc, &mut files, b"ports/MOVED", decoded(alloc, moved)?)?;
     for category in [b"a".as_slice(), b"b".as_slice(), b"c".as_slice()] {
         let mut path = Vec::new(alloc);
         push_all(&mut path, &[b"ports/", category, b"/subdir.vars"])?;
-        push_file(alloc, &mut files, path.as_slice(), ports_of(alloc, category, all.as_slice())?)?;
+        push_file(
+            alloc,
+            &mut files,
+            path.as_slice(),
+            ports_of(alloc, category, all.as_slice())?,
+        )?;
     }
     push_port(alloc, &mut files, b"a/t", target)?;
     for word in ports.split(|b| *b == b' ') {
@@ -132,7 +145,10 @@ fn answer(alloc: Global, index: &Index, node: &NodeInfo) -> Result<Vec<u8>, Fail
             None => return Err(Fail::new("no such node")),
         },
         At::Nowhere(name) => push_all(&mut found, &[b"nowhere ", name.bytes()])?,
-        At::Moved { old, new } => push_all(&mut found, &[b"moved ", old.bytes(), b" ", new.bytes()])?,
+        At::Moved { old, new } => push_all(
+            &mut found,
+            &[b"moved ", old.bytes(), b" ", new.bytes()],
+        )?,
     }
     Ok(found)
 }
@@ -163,7 +179,14 @@ fn nodes_names_and_moved_ports(rt: HostRuntime) -> Result<(), Fail> {
     let index = index_in(alloc, b"b/y:q,p c/z a/t-x", b"b/o!b/y!!", b"t:c/z u:b/y")?;
     let mut found = Vec::new(alloc);
     for node in index.nodes.as_slice() {
-        push_all(&mut found, &[b" ", node.node.bytes(), if node.is_default { b"*" } else { b"" }])?;
+        push_all(
+            &mut found,
+            &[
+                b" ",
+                node.node.bytes(),
+                if node.is_default { b"*" } else { b"" },
+            ],
+        )?;
     }
     assert!(rt; found.as_slice() == b" a/t* a/t-x* b/y@p b/y@q* c/z*".as_slice());
     assert_eq!(rt; index.moved.lines().len(), 1);
@@ -174,7 +197,10 @@ fn nodes_names_and_moved_ports(rt: HostRuntime) -> Result<(), Fail> {
         (b"b/o".as_slice(), false),
         (b"b/y@all".as_slice(), false),
     ] {
-        assert_eq!(rt; index.names.holds(&Text::from_bytes(alloc, name)?), is_there);
+        assert_eq!(rt;
+            index.names.holds(&Text::from_bytes(alloc, name)?),
+            is_there
+        );
     }
     Ok(())
 }
@@ -183,7 +209,12 @@ fn nodes_names_and_moved_ports(rt: HostRuntime) -> Result<(), Fail> {
 fn an_empty_tree(rt: HostRuntime) -> Result<(), Fail> {
     let alloc = rt.alloc();
     let mut tree = MemTree::new(alloc, Sequence::new(alloc), Sequence::new(alloc))?;
-    let Err(IndexError::BadPort { path, line, kind }) = index(alloc, &mut tree, &read_make(alloc, b"")?, false) else {
+    let Err(IndexError::BadPort { path, line, kind }) = index(
+        alloc,
+        &mut tree,
+        &read_make(alloc, b"")?,
+        false,
+    ) else {
         return Err(Fail::new("an index"));
     };
     assert!(rt; path.is(b"ports/subdir.vars"));
