@@ -6,3 +6,6 @@ pub mod Tree
 pub mod Targets
 pub mod Facts
 pub mod Index
+pub mod Gathered
+pub mod Named
+pub mod Twins

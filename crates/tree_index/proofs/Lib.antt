@@ -1,0 +1,4 @@
+mod Lists
+mod Splits
+mod InTurn
+mod Puts
