@@ -2,3 +2,5 @@ mod Lists
 mod Splits
 mod InTurn
 mod Puts
+mod NamedEntries
+mod TwinNodes

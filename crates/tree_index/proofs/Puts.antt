@@ -109,7 +109,7 @@ no_length : {A : Type 0} (xs : List A) → length xs ≡ 0 → xs ≡ []
 no_length [] e = refl
 no_length (x ∷ xs) e = absurd (omega arith)
 
-entries_none : (X : Type 0) → finite.entries (finite.empty {X = X} {R = order}) ≡ []
+pub entries_none : (X : Type 0) → finite.entries (finite.empty {X = X} {R = order}) ≡ []
 entries_none X = no_length _ (sym (finite.len-entries (finite.empty {X = X} {R = order})) ∙ finite.len-empty order X)
 
 AreNamed_none : {X : Type 0} (name : X → List ℕ) → AreNamed name (finite.entries (finite.empty {X = X} {R = order}))

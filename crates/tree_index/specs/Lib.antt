@@ -7,5 +7,4 @@ pub mod Targets
 pub mod Facts
 pub mod Index
 pub mod Gathered
-pub mod Named
 pub mod Twins

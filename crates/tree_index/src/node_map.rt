@@ -1,8 +1,7 @@
 // Nodes by their names.
-ghost use Rattle.std.specs.Prelude.{◌≡◌, ◌×◌, IfOk};
-ghost use Rattle.std.specs.BTreeMap.{values};
+ghost use Rattle.std.specs.Prelude.{◌≡◌, IfOk};
+ghost use Rattle.std.specs.FinMap.{entries};
 ghost use Rattle.tree_index.specs.Tree as trees;
-ghost use Rattle.tree_index.specs.Named.{IsByName};
 
 use crate::node::{NodeInfo, NodeInfos};
 use bulk_base::{NoMemory, Sequence, Text};
@@ -11,7 +10,7 @@ use std::collections::BTreeMap;
 
 // Nodes by their names; of nodes with one name the last.
 fn by_name(alloc: Global, nodes: NodeInfos) -> Result<BTreeMap<Text, NodeInfo>, NoMemory>
-    ensures { IfOk result (IsByName nodes) }
+    ensures { IfOk result (λ map. map.entries ≡ entries (trees.by_name nodes)) }
 {
     let mut map = BTreeMap::new(alloc);
     for node in nodes.into_vec() {
