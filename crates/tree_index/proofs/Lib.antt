@@ -1,0 +1,7 @@
+pub mod OneParts
+pub mod EnoughBytes
+pub mod Causes
+pub mod Steps
+pub mod InOrder
+pub mod PortOptions
+pub mod PortForm
