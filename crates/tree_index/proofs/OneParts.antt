@@ -6,7 +6,7 @@ use Rattle.std.proofs.lemmas.List.{length-append}
 use Rattle.std.proofs.lemmas.List.Folds.{list_all-append}
 use Rattle.std.proofs.lemmas.List.Splits.{slice_split_none}
 use Rattle.std.proofs.lemmas.Bool.Decides.{nat_tests}
-use Rattle.bulk_base.specs.Path.{is_slash, parts, is_part, is_path, joined}
+use Rattle.bulk_base.specs.Path.{is_slash, parts, is_part, is_path}
 use Rattle.bulk_base.specs.Names.{is_port_name, is_port_byte, is_alphanumeric}
 
 port_byte_no_slash : (b : ℕ) → is_port_byte b ≡ true → is_slash b ≡ false
@@ -44,9 +44,6 @@ record HasForm (name : List ℕ) : Type 0 where
 form_of : (name : List ℕ) → is_port_name name ≡ true → HasForm name
 form_of name h = record { begins = grind arith; bytes = grind arith; low = grind (arith, nat_tests); high = grind (arith, nat_tests) }
 
-pub short_name : (name : List ℕ) → is_port_name name ≡ true → length name ≤ 64
-short_name name h = (form_of name h).high
-
 pub name_is_path : (name : List ℕ) → is_port_name name ≡ true → is_path name ≡ true
 name_is_path name h = let f = form_of name h in begun_is_path name f.begins f.bytes (omega (arith, f.high))
 
@@ -66,9 +63,3 @@ pair_is_path category port h k =
     (begins_as category (95 ∷ port) f.low ∙ f.begins)
     (list_all-append is_port_byte category (95 ∷ port) ∙ both (list_all is_port_byte category) (list_all is_port_byte port) f.bytes g.bytes)
     (omega (arith, length-append category (95 ∷ port), f.high, g.high))
-
-pub length-pair : (category port : List ℕ) → is_port_name category ≡ true → is_port_name port ≡ true → length (category ++ 95 ∷ port) ≤ 129
-length-pair category port h k = omega (arith, length-append category (95 ∷ port), short_name category h, short_name port k)
-
-pub length-joined : (folder rest : List ℕ) → length (joined folder rest) ≡ length folder + (1 + length rest)
-length-joined folder rest = length-append folder (47 ∷ rest) ∙ omega arith

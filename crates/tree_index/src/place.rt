@@ -95,7 +95,10 @@ fn options_part(alloc: Global, origin: &Origin) -> Result<Path, NoMemory>
     ensures path { IfOk result (λ path. path ≡ origin.now.category ++ 95 ∷ origin.now.port) }
     ensures short { IfOk result (λ path. length path ≤ 129) }
 {
-    Path::of_text(alloc, &joined_by(alloc, &origin.category, b'_', &origin.port)?)
+    Path::of_text(
+        alloc,
+        &joined_by(alloc, &origin.category, b'_', &origin.port)?,
+    )
 }
 
 fn options_folder(alloc: Global, origin: &Origin) -> Result<Path, NoMemory>

@@ -49,11 +49,7 @@ fn copy_options(alloc: Global, options: &Switches) -> Result<Switches, NoMemory>
 }
 
 /// A node's name: the origin, or the origin, `@` and the flavor.
-fn node_name(
-    alloc: Global,
-    origin: &Origin,
-    flavor: Option<&Text>,
-) -> Result<Text, NoMemory>
+fn node_name(alloc: Global, origin: &Origin, flavor: Option<&Text>) -> Result<Text, NoMemory>
     ensures { IfOk result (λ name. name ≡ node_of (places.origin_name origin.now) (option_copied flavor.entry)) }
 {
     let name = origin_name(alloc, origin)?;
@@ -114,7 +110,5 @@ pub(crate) fn read_node(
     ensures refused { IfErr result (λ e. e ≢ DescError.NoMemory → described (finite.get vars.now) (option_copied flavor.entry) options.now ≡ Err e) }
 {
     let desc = describe(alloc, vars, flavor, options)?;
-    Ok(node_with(
-        alloc, try_broken, origin, flavor, is_default, options, desc,
-    )?)
+    Ok(node_with(alloc, try_broken, origin, flavor, is_default, options, desc)?)
 }

@@ -66,7 +66,15 @@ fn nodes_behind(
     let mut nodes = Sequence::new(alloc);
     nodes.push(default)?;
     for flavor in others {
-        let node = read_node(alloc, try_broken, origin, vars, Some(flavor), false, options)?;
+        let node = read_node(
+            alloc,
+            try_broken,
+            origin,
+            vars,
+            Some(flavor),
+            false,
+            options,
+        )?;
         nodes.push(node)?;
     }
     Ok(nodes)
@@ -84,8 +92,24 @@ fn nodes_for(
     ensures ok { IfOk result (λ nodes. ports.nodes_for try_broken origin.now vars.now options.now (ports.with_default flavors.now) ≡ Ok nodes) }
     ensures refused { IfErr result (λ e. e ≢ DescError.NoMemory → ports.nodes_for try_broken origin.now vars.now options.now (ports.with_default flavors.now) ≡ Err e) }
 {
-    let default = read_node(alloc, try_broken, origin, vars, flavors.first(), true, options)?;
-    nodes_behind(alloc, try_broken, origin, vars, options, default, flavors.get(1..).unwrap_or(&[]))
+    let default = read_node(
+        alloc,
+        try_broken,
+        origin,
+        vars,
+        flavors.first(),
+        true,
+        options,
+    )?;
+    nodes_behind(
+        alloc,
+        try_broken,
+        origin,
+        vars,
+        options,
+        default,
+        flavors.get(1..).unwrap_or(&[]),
+    )
 }
 
 /// The nodes of a port by its options file's variables and its own: the first refusal among what is missing, the flavors,
@@ -113,7 +137,14 @@ fn nodes_by(
         Ok(options) => options,
         Err(fault) => return Err(option_fault(alloc, path, fault)),
     };
-    match nodes_for(alloc, try_broken, origin, vars, &options, flavors.as_slice()) {
+    match nodes_for(
+        alloc,
+        try_broken,
+        origin,
+        vars,
+        &options,
+        flavors.as_slice(),
+    ) {
         Ok(nodes) => Ok(nodes),
         Err(fault) => Err(desc_fault(alloc, path, fault)),
     }

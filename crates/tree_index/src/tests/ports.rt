@@ -101,7 +101,11 @@ fn push_texts(out: &mut Vec<u8>, word: &[u8], texts: &[&Text]) -> Result<(), All
 
 fn push_node(out: &mut Vec<u8>, node: &NodeInfo) -> Result<(), AllocError> {
     push_texts(out, b"", &[&node.node])?;
-    push_texts(out, if node.is_default { b"*" } else { b"" }, &[&node.desc.name])?;
+    push_texts(
+        out,
+        if node.is_default { b"*" } else { b"" },
+        &[&node.desc.name],
+    )?;
     for option in node.options.as_slice() {
         out.extend_from_slice(if option.on { b" +" } else { b" -" })?;
         out.extend_from_slice(option.name.bytes())?;
@@ -158,7 +162,12 @@ fn push_error(alloc: Global, out: &mut Vec<u8>, error: &IndexError) -> Result<()
 }
 
 /// What a port's files give, in the form of a case's answer.
-fn answer<T: Tree>(alloc: Global, tree: &mut T, make: &[u8], try_broken: bool) -> Result<Vec<u8>, Fail> {
+fn answer<T: Tree>(
+    alloc: Global,
+    tree: &mut T,
+    make: &[u8],
+    try_broken: bool,
+) -> Result<Vec<u8>, Fail> {
     let make = read_make(alloc, decoded(alloc, make)?.as_slice())?;
     let mut out = Vec::new(alloc);
     match read_port(alloc, tree, &make, try_broken, &origin(alloc)?) {
@@ -186,7 +195,13 @@ fn ports(rt: HostRuntime) -> Result<(), Fail> {
 
 /// Whether a port gives TreeFault where one read fails.
 fn is_tree_fault(alloc: Global, number: u32) -> Result<bool, Fail> {
-    let fails = Sequence::from_slice(alloc, &[Failing { call: CallKind::Bytes, number }])?;
+    let fails = Sequence::from_slice(
+        alloc,
+        &[Failing {
+            call: CallKind::Bytes,
+            number,
+        }],
+    )?;
     let mut tree = tree(alloc, b"-", b"^", fails)?;
     let make = read_make(alloc, b"")?;
     let read = read_port(alloc, &mut tree, &make, false, &origin(alloc)?);
