@@ -1,6 +1,5 @@
 pub mod OneParts
 pub mod EnoughBytes
-pub mod Causes
 pub mod Steps
 pub mod InOrder
 pub mod PortOptions
