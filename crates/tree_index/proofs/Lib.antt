@@ -1,6 +1,12 @@
-mod Lists
-mod Splits
-mod InTurn
-mod Puts
-mod NamedEntries
-mod TwinNodes
+pub mod OneParts
+pub mod EnoughBytes
+pub mod Steps
+pub mod InOrder
+pub mod PortOptions
+pub mod PortForm
+pub mod Lists
+pub mod Splits
+pub mod InTurn
+pub mod Puts
+pub mod NamedEntries
+pub mod TwinNodes

@@ -4,6 +4,11 @@
 mod fault;
 mod index;
 mod node;
+mod place;
+mod port_fault;
+mod port_node;
+mod port_reading;
+mod var_file;
 
 pub use fault::{IndexError, PortKind};
 pub use index::Index;

@@ -1,0 +1,2 @@
+// Cases by hand from docs/FORMATS.md, "The tree folder".
+mod ports;
