@@ -8,7 +8,7 @@ use Rattle.std.specs.List.{AllByRecursion, IsDistinct}
 use Rattle.std.specs.FinMap as finite
 use Rattle.std.specs.FinMap.{FinMap, get-insert}
 use Rattle.std.proofs.lemmas.List.{drop_more, drop_all}
-use Rattle.std.proofs.lemmas.Option.{slice_get-get_or}
+use Rattle.std.proofs.lemmas.Option.{slice_get-get_or, none-some}
 use Rattle.std.proofs.lemmas.Map.Keys.{IsDistinct-cons}
 use Rattle.tree_index.specs.declared.node.NodeInfo.{NodeInfo}
 use Rattle.tree_index.specs.declared.twins.Twins.{Twins}
@@ -80,12 +80,15 @@ names_mapped : (node : NodeInfo) (nodes : List NodeInfo) → AllByRecursion (λ 
 names_mapped node [] h = tt
 names_mapped node (other ∷ nodes) h = (h.0, names_mapped node nodes h.1)
 
+some_none : {node other : NodeInfo} → (let found : Option (NodeInfo × NodeInfo) = Some (node, other) in found) ≡ None → ⊥
+some_none {node} {other} e = none-some (node, other) (sym e)
+
 pub names_apart : (nodes : List NodeInfo) → first_twins nodes ≡ None → IsDistinct bytes_eq (map (λ node. node.desc.name) nodes)
 unfolding IsDistinct
 names_apart [] h = tt
 names_apart (node ∷ nodes) h =
     elim (find (are_twins node) nodes) as (λ o. find (are_twins node) nodes ≡ o → elim o [ | Some other ↦ Some (node, other) | None ↦ first_twins nodes ] ≡ None
         → IsDistinct bytes_eq (map (λ node. node.desc.name) (node ∷ nodes))) [
-      | Some other ↦ λ _ e. absurd (cc)
+      | Some other ↦ λ _ e. absurd (some_none e)
       | None ↦ λ o e. (names_mapped node nodes (none_like (are_twins node) nodes o), names_apart nodes e)
     ] refl h

@@ -89,15 +89,11 @@ first_twins (node ∷ more) = elim (find (are_twins node) more) [
   | None ↦ first_twins more
 ]
 
--- the refusal of two such nodes
-abbrev pub twin_fault : NodeInfo → NodeInfo → IndexError
-twin_fault a b = DupName a.node b.node a.desc.name
-
 -- nodes no two of which have packages of one name
 abbrev pub apart : List NodeInfo → Result (List NodeInfo) IndexError
 apart nodes = elim (first_twins nodes) [
   | None ↦ Ok nodes
-  | Some twins ↦ Err (twin_fault twins.0 twins.1)
+  | Some twins ↦ Err (DupName twins.0.node twins.1.node twins.0.desc.name)
 ]
 
 -- what a tree holds before it is known where dependencies lead: what MOVED says, and the nodes in order

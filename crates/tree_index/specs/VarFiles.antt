@@ -32,15 +32,11 @@ vars_if_there content path = option_map_or (vars_in path) (get content path) (Ok
 abbrev pub is_no_port_name : List ℕ → Bool
 is_no_port_name word = not (is_port_name word)
 
--- the fault of a file that lists a word which is no name
-abbrev pub bad_list : List ℕ → IndexError
-bad_list path = BadPort path 0 (BadValue (codes "SUBDIR"))
-
 -- words that are names of categories or ports, in byte order, each once; else the file that lists them is at fault
 abbrev pub names_among : List ℕ → List (List ℕ) → Result (List (List ℕ)) IndexError
 names_among path words = elim (find is_no_port_name words) [
   | None ↦ Ok (in_order words)
-  | Some word ↦ Err (bad_list path)
+  | Some word ↦ Err (BadPort path 0 (BadValue (codes "SUBDIR")))
 ]
 
 -- what the SUBDIR of a file lists

@@ -8,6 +8,7 @@ ghost use Rattle.tree_index.specs.Gathered.{IsNameList};
 ghost use Rattle.tree_index.specs.VarFiles as files;
 
 use crate::fault::{IndexError, PortKind};
+use crate::port_fault::bad_port;
 use crate::var_file::read_vars_at;
 use bulk_base::{NoMemory, Path, Text, TextMap, Texts};
 use option_set::words_in;
@@ -53,28 +54,19 @@ fn in_order(alloc: Global, words: &[Text]) -> Result<Texts, NoMemory>
     set.keys(alloc)
 }
 
-// The fault of a file that lists a word which is no name.
-fn bad_word(alloc: Global, path: &Path) -> Result<IndexError, NoMemory>
-    ensures { IfOk result (λ e. e ≡ files.bad_list path.now) }
-{
-    Ok(IndexError::BadPort {
-        path: path.text().copy(alloc)?,
-        line: 0,
-        kind: PortKind::BadValue {
-            name: Text::literal(alloc, b"SUBDIR")?,
-        },
-    })
-}
-
 /// Words that are names of categories or ports, in byte order, each once. BadPort exactly where one is no such name.
 fn names_among(alloc: Global, path: &Path, words: &Texts) -> Result<Texts, IndexError>
     ensures ok { IfOk result (λ list. files.names_among path.now words.now ≡ Ok list) }
     ensures refused { IfErr result (λ e. e ≢ IndexError.NoMemory → files.names_among path.now words.now ≡ Err e) }
     ensures form { IfOk result IsNameList }
+    ensures quiet { IfErr result (λ e. e ≢ IndexError.TreeFault) }
 {
     match words.iter().find(|word| is_no_port_name(word)) {
         None => Ok(in_order(alloc, words.as_slice())?),
-        Some(_) => Err(bad_word(alloc, path)?),
+        Some(_) => {
+            let name = Text::literal(alloc, b"SUBDIR")?;
+            Err(bad_port(alloc, path, 0, PortKind::BadValue { name }))
+        }
     }
 }
 

@@ -7,7 +7,8 @@ ghost use Rattle.tree_index.specs.Tree as trees;
 
 use crate::fault::{IndexError, PortKind};
 use crate::place::moved_file;
-use bulk_base::{NoMemory, Text};
+use crate::port_fault::bad_port;
+use bulk_base::Path;
 use bulk_model::Which;
 use moved_list::{Moved, MovedError, read_moved};
 use outside::Tree;
@@ -16,24 +17,23 @@ use std::alloc::Global;
 // The most bytes of MOVED.
 const MOST_FILE_BYTES: u64 = 4_194_304;
 
-// The fault of MOVED that its reader found.
-fn moved_fault(alloc: Global, fault: MovedError) -> Result<IndexError, NoMemory>
-    ensures { IfOk result (λ e. e ≡ faults.moved_fault places.moved_file fault) }
+/// A fault of MOVED.
+fn moved_fault(alloc: Global, path: &Path, fault: MovedError) -> IndexError
+    ensures told { result ≢ IndexError.NoMemory → result ≡ faults.moved_fault path.now fault }
+    ensures quiet { result ≢ IndexError.TreeFault }
 {
     match fault {
-        MovedError::BadLine { line } => Ok(IndexError::BadPort {
-            path: Text::literal(alloc, b"ports/MOVED")?,
-            line,
-            kind: PortKind::BadMoved,
-        }),
-        MovedError::NoMemory => Ok(IndexError::NoMemory),
+        MovedError::BadLine { line } => bad_port(alloc, path, line, PortKind::BadMoved),
+        MovedError::NoMemory => IndexError::NoMemory,
     }
 }
 
-// What the bytes of a MOVED say.
-fn moved_in(alloc: Global, bytes: &[u8]) -> Result<Moved, IndexError>
+/// What a MOVED with these bytes says.
+fn moved_in(alloc: Global, path: &Path, bytes: &[u8]) -> Result<Moved, IndexError>
+    requires { path.now ≡ places.moved_file }
     ensures ok { IfOk result (λ moved. trees.moved_in bytes.now ≡ Ok moved) }
     ensures refused { IfErr result (λ e. e ≢ IndexError.NoMemory → trees.moved_in bytes.now ≡ Err e) }
+    ensures quiet { IfErr result (λ e. e ≢ IndexError.TreeFault) }
 {
     if bytes.len() as u64 > MOST_FILE_BYTES {
         return Err(IndexError::Limit {
@@ -43,7 +43,7 @@ fn moved_in(alloc: Global, bytes: &[u8]) -> Result<Moved, IndexError>
     }
     match read_moved(alloc, bytes) {
         Ok(moved) => Ok(moved),
-        Err(fault) => Err(moved_fault(alloc, fault)?),
+        Err(fault) => Err(moved_fault(alloc, path, fault)),
     }
 }
 
@@ -59,7 +59,7 @@ pub(crate) fn read_moved_at<T: Tree>(alloc: Global, tree: &mut T) -> Result<Move
 {
     let path = moved_file(alloc)?;
     match tree.bytes(alloc, &path, MOST_FILE_BYTES + 1)? {
-        None => moved_in(alloc, b""),
-        Some(bytes) => moved_in(alloc, &bytes),
+        None => moved_in(alloc, &path, b""),
+        Some(bytes) => moved_in(alloc, &path, bytes.as_slice()),
     }
 }

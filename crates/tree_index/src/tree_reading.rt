@@ -25,7 +25,7 @@ fn refuse_many(nodes: &[NodeInfo]) -> Result<(), IndexError>
     ensures ok { OnOk result (few nodes.now ≡ Ok nodes.now) }
     ensures refused { IfErr result (λ e. few nodes.now ≡ Err e) }
     ensures form { OnOk result (length nodes.now ≤ 16384) }
-    ensures cause { IfErr result (λ e. e ≢ IndexError.TreeFault) }
+    ensures quiet { IfErr result (λ e. e ≢ IndexError.TreeFault) }
 {
     if nodes.len() > MOST_NODES {
         return Err(IndexError::Limit {

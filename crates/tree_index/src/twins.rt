@@ -1,7 +1,7 @@
 // Nodes that have packages of one name.
 ghost use Rattle.std.specs.Prelude.{◌≡◌, ◌≢◌, ◌<◌, ◌+◌, ℕ, List, Ok, Err, IfOk, IfErr, OnOk, length, map, drop, bytes_eq};
 ghost use Rattle.std.specs.List.{IsDistinct};
-ghost use Rattle.tree_index.specs.Tree.{apart, twin_fault};
+ghost use Rattle.tree_index.specs.Tree.{apart};
 ghost use Rattle.tree_index.specs.Twins.{IsSeen, IsFirstTwins};
 
 use crate::fault::IndexError;
@@ -50,26 +50,23 @@ fn first_twins(alloc: Global, nodes: &[NodeInfo]) -> Result<Option<Twins>, NoMem
     Ok(found)
 }
 
-fn twin_names(alloc: Global, a: &NodeInfo, b: &NodeInfo) -> Result<IndexError, NoMemory>
-    ensures { IfOk result (λ e. e ≡ twin_fault a.now b.now) }
-{
-    Ok(IndexError::DupName {
-        a: a.node.copy(alloc)?,
-        b: b.node.copy(alloc)?,
-        name: a.desc.name.copy(alloc)?,
-    })
-}
-
 /// Refuses nodes of which two have packages of one name: DupName with the first node that shares its package's name with
 /// another, and the first of the others. O(log n) comparisons for each of n nodes.
 pub(crate) fn refuse_twins(alloc: Global, nodes: &[NodeInfo]) -> Result<(), IndexError>
     ensures ok { OnOk result (apart nodes.now ≡ Ok nodes.now) }
     ensures refused { IfErr result (λ e. e ≢ IndexError.NoMemory → apart nodes.now ≡ Err e) }
     ensures form { OnOk result (IsDistinct bytes_eq (map (λ node. node.desc.name) nodes.now)) }
-    ensures cause { IfErr result (λ e. e ≢ IndexError.TreeFault) }
+    ensures quiet { IfErr result (λ e. e ≢ IndexError.TreeFault) }
 {
     match first_twins(alloc, nodes)? {
         None => Ok(()),
-        Some(twins) => Err(twin_names(alloc, &nodes[twins.least], &nodes[twins.other])?),
+        Some(twins) => {
+            let least = &nodes[twins.least];
+            Err(IndexError::DupName {
+                a: least.node.copy(alloc)?,
+                b: nodes[twins.other].node.copy(alloc)?,
+                name: least.desc.name.copy(alloc)?,
+            })
+        }
     }
 }
