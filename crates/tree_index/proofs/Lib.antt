@@ -2,3 +2,15 @@ pub mod Numbered
 pub mod Known
 pub mod Aimed
 pub mod Ordered
+pub mod OneParts
+pub mod EnoughBytes
+pub mod Steps
+pub mod InOrder
+pub mod PortOptions
+pub mod PortForm
+pub mod Lists
+pub mod Splits
+pub mod InTurn
+pub mod Puts
+pub mod NamedEntries
+pub mod TwinNodes

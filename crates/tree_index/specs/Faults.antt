@@ -2,6 +2,8 @@
 use Rattle.std.specs.Prelude.{ℕ, List}
 use Rattle.std.specs.declared.result.Result.{Result}
 use Rattle.std.specs.declared.result.Result.TheVariants.{Ok, Err}
+use Rattle.outside.specs.declared.outer.Outer.{Outer}
+use Rattle.outside.specs.declared.outer.Outer.TheVariants as outer
 use Rattle.bulk_model.specs.declared.reason.Which.TheVariants as which
 use Rattle.port_vars.specs.declared.fault.VarsError.{VarsError}
 use Rattle.port_vars.specs.declared.fault.VarsError.TheVariants as vars
@@ -13,7 +15,12 @@ use Rattle.moved_list.specs.declared.fault.MovedError.{MovedError}
 use Rattle.moved_list.specs.declared.fault.MovedError.TheVariants as moved
 use Rattle.tree_index.specs.declared.fault.PortKind.TheVariants.{Line, Undefined, Group, Prevented, BadFlavor, Missing, BadValue, BadDepend, Target, BadMoved}
 use Rattle.tree_index.specs.declared.fault.IndexError.{IndexError}
-use Rattle.tree_index.specs.declared.fault.IndexError.TheVariants.{BadPort, Limit, NoMemory}
+use Rattle.tree_index.specs.declared.fault.IndexError.TheVariants.{TreeFault, BadPort, Limit, NoMemory}
+
+-- a failure of the tree
+abbrev pub tree_fault : Outer → IndexError
+tree_fault outer.Fault = TreeFault
+tree_fault outer.NoMemory = NoMemory
 
 -- a fault of a variable file
 abbrev pub vars_fault : List ℕ → VarsError → IndexError

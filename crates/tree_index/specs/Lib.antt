@@ -7,3 +7,5 @@ pub mod Targets
 pub mod Facts
 pub mod Numbers
 pub mod Index
+pub mod Gathered
+pub mod Twins

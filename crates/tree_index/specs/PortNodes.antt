@@ -44,10 +44,14 @@ node_with try_broken origin flavor is_default options desc = record {
   targets = [];
 }
 
+-- a flavor that is not the default
+abbrev pub other_flavor : List ℕ → Option (List ℕ) × Bool
+other_flavor flavor = (Some flavor, false)
+
 -- a port's flavors, each with whether it is the default; a port without flavors has one node, which is its default
 abbrev pub with_default : List (List ℕ) → List (Option (List ℕ) × Bool)
 with_default [] = (None, true) ∷ []
-with_default (first ∷ more) = (Some first, true) ∷ map (λ flavor. (Some flavor, false)) more
+with_default (first ∷ more) = (Some first, true) ∷ map other_flavor more
 
 -- the nodes for some flavors, or the first refusal: all checks of one flavor come before those of the next
 abbrev pub nodes_for : Bool → Origin → Vars → List Switch → List (Option (List ℕ) × Bool) → Result (List NodeInfo) DescError

@@ -37,22 +37,28 @@ moved_in bytes =
 abbrev pub moved_at : Contents → Result (List MovedLine) IndexError
 moved_at content = option_map_or moved_in (finite.get content moved_file) (Ok [])
 
--- the nodes of ports, one port after another, or the first refusal
-abbrev pub nodes_of_ports : MakeConf → Bool → Contents → List ℕ → List (List ℕ) → Result (List NodeInfo) IndexError
-nodes_of_ports make try_broken content category [] = Ok []
-nodes_of_ports make try_broken content category (port ∷ more) = do
-  nodes ← port_nodes make try_broken content (record { category = category; port = port })
-  others ← nodes_of_ports make try_broken content category more
-  Ok (nodes ++ others)
+-- what some names give, one name after another, or the first refusal
+abbrev pub each_in_turn : {X E : Type 0} → (List ℕ → Result (List X) E) → List (List ℕ) → Result (List X) E
+each_in_turn read [] = Ok []
+each_in_turn read (name ∷ more) = do
+  found ← read name
+  others ← each_in_turn read more
+  Ok (found ++ others)
 
--- the nodes of categories, one category after another, or the first refusal: a category's list stands before its ports
-abbrev pub nodes_of_categories : MakeConf → Bool → Contents → List (List ℕ) → Result (List NodeInfo) IndexError
-nodes_of_categories make try_broken content [] = Ok []
-nodes_of_categories make try_broken content (category ∷ more) = do
+-- the nodes of a category's ports, one port after another, or the first refusal
+abbrev pub nodes_of_ports : MakeConf → Bool → Contents → List ℕ → List (List ℕ) → Result (List NodeInfo) IndexError
+nodes_of_ports make try_broken content category ports =
+    each_in_turn (λ port. port_nodes make try_broken content (record { category = category; port = port })) ports
+
+-- the nodes of a category, or the first refusal: its list stands before its ports
+unfoldable pub nodes_of_category : MakeConf → Bool → Contents → List ℕ → Result (List NodeInfo) IndexError
+nodes_of_category make try_broken content category = do
   ports ← listed_in content (ports_file category)
-  nodes ← nodes_of_ports make try_broken content category ports
-  others ← nodes_of_categories make try_broken content more
-  Ok (nodes ++ others)
+  nodes_of_ports make try_broken content category ports
+
+-- the nodes of categories, one category after another, or the first refusal
+abbrev pub nodes_of_categories : MakeConf → Bool → Contents → List (List ℕ) → Result (List NodeInfo) IndexError
+nodes_of_categories make try_broken content categories = each_in_turn (nodes_of_category make try_broken content) categories
 
 -- a finite map from names to nodes
 abbrev pub NodeMap : Type 0

@@ -4,6 +4,7 @@ ghost use Rattle.tree_index.specs.declared.fault.IndexError.TheVariants.{NoMemor
 
 use bulk_base::{Text, Texts};
 use bulk_model::Which;
+use outside::Outer;
 use port_vars::LineKind;
 use std::alloc::AllocError;
 
@@ -101,5 +102,18 @@ impl From<AllocError> for IndexError {
 
     fn from(_: AllocError) -> IndexError {
         IndexError::NoMemory
+    }
+}
+
+impl From<Outer> for IndexError {
+    ghost use Rattle.tree_index.specs.Faults.{tree_fault};
+
+    ghost from_gives = { λ outer e. e ≡ tree_fault outer };
+
+    fn from(outer: Outer) -> IndexError {
+        match outer {
+            Outer::Fault => IndexError::TreeFault,
+            Outer::NoMemory => IndexError::NoMemory,
+        }
     }
 }

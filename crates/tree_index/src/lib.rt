@@ -2,16 +2,25 @@
 #![tactic(auto)]
 
 mod aiming;
+mod category;
 mod fault;
 mod indexing;
+mod listing;
+mod moved_file;
 mod name_list;
 mod node;
+mod node_map;
 mod node_numbers;
 mod place;
+mod port_fault;
+mod port_node;
+mod port_reading;
 mod ports_index;
 #[cfg(test)]
 mod tests;
 mod tree_reading;
+mod twins;
+mod var_file;
 
 pub use fault::{IndexError, PortKind};
 pub use indexing::index;

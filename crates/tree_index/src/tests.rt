@@ -1,2 +1,3 @@
-// Tests of whole answers, by tables of cases.
+// Cases by hand from docs/FORMATS.md, "The tree folder".
 mod indexes;
+mod ports;

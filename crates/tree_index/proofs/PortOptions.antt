@@ -1,0 +1,96 @@
+-- The options of a port are in form.
+use Rattle.std.proofs.Common.{◌≡◌, ℕ, Bool, true, false, List, [], ◌∷◌, ◌++◌, ap, subst, sym, ◌∙◌, refl, arith, Ok, Err, Option, Some, None}
+use Rattle.std.specs.Prelude.{map, find, not, ◌&&◌, cond}
+use Rattle.std.specs.Option.{option_map, option_or}
+use Rattle.std.specs.List.{list_all}
+use Rattle.std.proofs.lemmas.Bool.{and_parts}
+use Rattle.std.proofs.lemmas.List.Folds.{list_all-append}
+use Rattle.bulk_base.specs.Names as names
+use Rattle.bulk_base.specs.declared.file.Switch.{Switch}
+use Rattle.bulk_model.specs.Facts.{IsOptionList}
+use Rattle.outside.specs.Contents.{IsAscending}
+use Rattle.port_vars.specs.Variables.{Vars}
+use Rattle.port_desc.proofs.Refused.{same_ok, no_err}
+use Rattle.option_set.specs.declared.fault.OptionError.{OptionError}
+use Rattle.option_set.specs.declared.fault.OptionError.TheVariants.{Undefined}
+use Rattle.option_set.specs.declared.layers.Layers.{Layers}
+use Rattle.option_set.specs.declared.defining.Group.{Group}
+use Rattle.option_set.specs.declared.defining.Defining.{Defining}
+use Rattle.option_set.specs.Named.{is_option_name, in_order}
+use Rattle.option_set.specs.Defined.{defining, defining_words, option_words, words_of_groups, members_of, options_of}
+use Rattle.option_set.specs.Implied.{on_in}
+use Rattle.option_set.specs.Refused.{words_refused, state_refused, no_name, too_many, undefined, not_defined, naming_words}
+use Rattle.option_set.specs.Chosen.{chosen, switches, unless}
+use Rattle.port_name.specs.Sets.{is_among}
+use Rattle.tree_index.proofs.InOrder.{list_all-in_order, in_order-ascends}
+
+both : (a b : Bool) → a ≡ true → b ≡ true → (a && b) ≡ true
+both a b p q = grind arith
+
+none_bad : (good : Bool) (word : List ℕ) (rest : Option (List ℕ)) → cond (not good) (Some word) rest ≡ None → (good ≡ true) × (rest ≡ None)
+none_bad true word rest h = (refl, h)
+none_bad false word rest h = cc
+
+all_named : (words : List (List ℕ)) → no_name words ≡ None → list_all is_option_name words ≡ true
+all_named [] h = refl
+all_named (word ∷ words) h =
+    let m = none_bad (is_option_name word) word (no_name words) h in
+    both (is_option_name word) (list_all is_option_name words) m.0 (all_named words m.1)
+
+-- what all defining words pass, all options pass
+module _ (p : List ℕ → Bool) where
+  halves : (a b : List (List ℕ)) → list_all p (a ++ b) ≡ true → (list_all p a ≡ true) × (list_all p b ≡ true)
+  halves a b h = and_parts (list_all p a) (list_all p b) (sym (list_all-append p a b) ∙ h)
+
+  joined : (a b : List (List ℕ)) → list_all p a ≡ true → list_all p b ≡ true → list_all p (a ++ b) ≡ true
+  joined a b h k = list_all-append p a b ∙ both (list_all p a) (list_all p b) h k
+
+  members_pass : (groups : List Group) → list_all p (words_of_groups groups) ≡ true → list_all p (members_of groups) ≡ true
+  members_pass groups h = (halves (map (λ group. group.name) groups) (members_of groups) h).1
+
+  with_groups : (words options : List (List ℕ)) (groups : List Group) → (list_all p words ≡ true → list_all p options ≡ true)
+      → list_all p (words ++ words_of_groups groups) ≡ true → list_all p (options ++ members_of groups) ≡ true
+  with_groups words options groups f h =
+      let m = halves words (words_of_groups groups) h in
+      joined options (members_of groups) (f m.0) (members_pass groups m.1)
+
+  options_pass : (d : Defining) → list_all p (defining_words d) ≡ true → list_all p (option_words d) ≡ true
+  options_pass d = with_groups _ _ d.multi (with_groups _ _ d.radio (with_groups _ _ d.single (with_groups d.alone d.alone d.any (λ h. h))))
+
+first_none : {A : Type 0} (a b : Option A) → option_or a b ≡ None → (a ≡ None) × (b ≡ None)
+first_none None b h = (refl, h)
+first_none (Some x) b h = cc
+
+no_word : (word : Option (List ℕ)) → undefined word ≡ None → word ≡ None
+no_word None h = refl
+no_word (Some word) h = cc
+
+names_good : (vars : Vars) (d : Defining) (options : List (List ℕ)) → words_refused vars d options ≡ None → no_name (defining_words d) ≡ None
+unfolding words_refused
+names_good vars d options h =
+    let a = first_none (too_many options) (option_or (undefined (no_name (defining_words d))) (undefined (not_defined (is_among options) (naming_words vars options)))) h in
+    let b = first_none (undefined (no_name (defining_words d))) (undefined (not_defined (is_among options) (naming_words vars options))) a.1 in
+    no_word (no_name (defining_words d)) b.0
+
+allowed : {A : Type 0} (refusal : Option OptionError) (a b : A) → unless refusal a ≡ Ok b → (refusal ≡ None) × (a ≡ b)
+allowed None a b h = (refl, same_ok a b h)
+allowed (Some e) a b h = absurd (no_err e b h)
+
+switched : (options on : List (List ℕ)) → map (λ (s : Switch). s.name) (switches options on) ≡ options
+switched [] on = refl
+switched (name ∷ options) on = ap (λ names. name ∷ names) (switched options on)
+
+-- options that are chosen
+pub chosen_sound : (vars : Vars) (layers : Layers) (options : List Switch) → chosen vars layers ≡ Ok options → IsOptionList options
+unfolding chosen
+chosen_sound vars layers options h =
+    let d = defining vars in
+    let defined = options_of d in
+    let on = on_in vars defined layers in
+    let m = allowed (option_or (words_refused vars d defined) (state_refused vars d on)) (switches defined on) options h in
+    let refused = first_none (words_refused vars d defined) (state_refused vars d on) m.0 in
+    let named : list_all is_option_name defined ≡ true = list_all-in_order is_option_name (option_words d) (options_pass is_option_name d (all_named (defining_words d) (names_good vars d defined refused.0))) in
+    subst IsOptionList m.1 (record {
+      order = subst IsAscending (sym (switched defined on)) (in_order-ascends (option_words d));
+      forms = ap (list_all names.is_option_name) (switched defined on) ∙ named;
+    })

@@ -1,0 +1,114 @@
+// One node of a port.
+ghost use Rattle.std.specs.Prelude.{◌≡◌, ◌≢◌, IfOk, IfErr, Ok, Err};
+ghost use Rattle.std.specs.Option.{option_copied};
+ghost use Rattle.std.specs.FinMap as finite;
+ghost use Rattle.bulk_base.specs.Names.{node_of};
+ghost use Rattle.port_desc.specs.Description.{described};
+ghost use Rattle.port_vars.specs.Assignment.{mapped};
+ghost use Rattle.tree_index.specs.Places as places;
+ghost use Rattle.tree_index.specs.PortNodes as ports;
+
+use crate::node::NodeInfo;
+use crate::place::{joined_by, origin_name};
+use bulk_base::{NoMemory, Sequence, Switch, Switches, Text};
+use port_desc::{Desc, DescError, describe};
+use port_name::Origin;
+use port_vars::Vars;
+use std::alloc::Global;
+
+/// A copy of a text, if there is one.
+fn copy_of(alloc: Global, text: Option<&Text>) -> Result<Option<Text>, NoMemory>
+    ensures { IfOk result (λ copied. copied ≡ option_copied text.entry) }
+{
+    match text {
+        Some(text) => Ok(Some(text.copy(alloc)?)),
+        None => Ok(None),
+    }
+}
+
+fn copy_origin(alloc: Global, origin: &Origin) -> Result<Origin, NoMemory>
+    ensures { IfOk result (λ copied. copied ≡ origin.now) }
+{
+    Ok(Origin {
+        category: origin.category.copy(alloc)?,
+        port: origin.port.copy(alloc)?,
+    })
+}
+
+fn copy_options(alloc: Global, options: &Switches) -> Result<Switches, NoMemory>
+    ensures { IfOk result (λ copied. copied ≡ options.now) }
+{
+    let mut copied = Sequence::new(alloc);
+    for option in options.as_slice() {
+        copied.push(Switch {
+            name: option.name.copy(alloc)?,
+            on: option.on,
+        })?;
+    }
+    Ok(copied)
+}
+
+/// A node's name: the origin, or the origin, `@` and the flavor.
+fn node_name(alloc: Global, origin: &Origin, flavor: Option<&Text>) -> Result<Text, NoMemory>
+    ensures { IfOk result (λ name. name ≡ node_of (places.origin_name origin.now) (option_copied flavor.entry)) }
+{
+    let name = origin_name(alloc, origin)?;
+    match flavor {
+        Some(flavor) => joined_by(alloc, &name, b'@', flavor),
+        None => Ok(name),
+    }
+}
+
+/// Why a node is not built, where it is not: by IGNORE, else by FORBIDDEN, else by BROKEN where broken ports are not tried.
+fn reason(try_broken: bool, desc: &Desc) -> Option<&Text>
+    ensures { option_copied result ≡ ports.ignored_by try_broken desc.now }
+{
+    let broken = if try_broken {
+        None
+    } else {
+        desc.broken.as_ref()
+    };
+    desc.ignore.as_ref().or(desc.forbidden.as_ref()).or(broken)
+}
+
+/// A node with what its port's variables say of it.
+fn node_with(
+    alloc: Global,
+    try_broken: bool,
+    origin: &Origin,
+    flavor: Option<&Text>,
+    is_default: bool,
+    options: &Switches,
+    desc: Desc,
+) -> Result<NodeInfo, NoMemory>
+    ensures { IfOk result (λ node. node ≡ ports.node_with try_broken origin.now (option_copied flavor.entry) is_default options.now desc) }
+{
+    Ok(NodeInfo {
+        node: node_name(alloc, origin, flavor)?,
+        origin: copy_origin(alloc, origin)?,
+        flavor: copy_of(alloc, flavor)?,
+        is_default,
+        options: copy_options(alloc, options)?,
+        ignored: copy_of(alloc, reason(try_broken, &desc))?,
+        desc,
+        targets: Sequence::new(alloc),
+    })
+}
+
+/// The node of a flavor, or of a port without flavors, or what is wrong with the port's variables. Where its dependencies
+/// lead is not known yet.
+pub(crate) fn read_node(
+    alloc: Global,
+    try_broken: bool,
+    origin: &Origin,
+    vars: &Vars,
+    flavor: Option<&Text>,
+    is_default: bool,
+    options: &Switches,
+) -> Result<NodeInfo, DescError>
+    ensures ok { IfOk result (λ node. mapped (ports.node_with try_broken origin.now (option_copied flavor.entry) is_default options.now) (described (finite.get vars.now) (option_copied flavor.entry) options.now) ≡ Ok node) }
+    ensures refused { IfErr result (λ e. e ≢ DescError.NoMemory → described (finite.get vars.now) (option_copied flavor.entry) options.now ≡ Err e) }
+{
+    let desc = describe(alloc, vars, flavor, options)?;
+    Ok(node_with(alloc, try_broken, origin, flavor, is_default, options, desc)?)
+}

@@ -1,0 +1,263 @@
+// Cases of one port: each check, its place among the others, and what a node is made of.
+use crate::fault::{IndexError, PortKind};
+use crate::node::{NodeInfo, NodeInfos};
+use crate::port_reading::read_port;
+use bulk_base::{Bytes, FileItem, Files, Path, Sequence, Text};
+use bulk_model::Which;
+use conf_file::read_make;
+use outside::{CallKind, Fail as Failing, Fails, MemTree, Tree};
+use port_name::Origin;
+use std::alloc::{AllocError, Global};
+use std::test::Fail;
+
+/// The options file and the port.vars of the port a/x, `-` for one that is absent; make.conf; `t` where BROKEN is passed
+/// over; and the answer: `=` and the nodes, the default with `*`, each with its package's name, the states of its options
+/// and why it is not built; or `!`, the file, the line and what is wrong.
+///
+/// In it `~` is a line feed and `^` sets PORTNAME to `x` and PORTVERSION to `1.0`.
+const CASES: &[u8] = br"-|^|||= a/x* x-1.0
+|^|||= a/x* x-1.0
+-|-|||!ports/a/x/port.vars:0 absent
+A|-|||!etc/options/a_x/options:1 no operator
+~~A=${B}|A|||!etc/options/a_x/options:3 bad reference
+A=1|~A|||!ports/a/x/port.vars:2 no operator
+-||||!ports/a/x/port.vars:0 missing PORTNAME
+-|PORTNAME=x~FLAVORS=all|||!ports/a/x/port.vars:0 missing PORTVERSION
+-|PORTNAME=~PORTVERSION=1.0|||!ports/a/x/port.vars:0 missing PORTNAME
+-|^FLAVORS=b a b~OPTIONS_DEFAULT=Z|||!ports/a/x/port.vars:0 bad flavor b
+-|^FLAVORS=f all|||!ports/a/x/port.vars:0 bad flavor all
+-|^OPTIONS_DEFAULT=Z~PORTNAME=-|||!ports/a/x/port.vars:0 undefined Z
+-|^OPTIONS_SINGLE=G~OPTIONS_SINGLE_G=A B|||!ports/a/x/port.vars:0 group G
+-|^OPTIONS_RADIO=G~OPTIONS_RADIO_G=B A|OPTIONS_SET=A B||!ports/a/x/port.vars:0 group G A B
+OPTIONS_FILE_SET=A B|^OPTIONS_DEFINE=A B~A_PREVENTS=B|||!ports/a/x/port.vars:0 prevented A B
+-|^PORTVERSION=1_0~RUN_DEPENDS=x|||!ports/a/x/port.vars:0 bad value PORTVERSION
+-|^RUN_DEPENDS=t:a/y:z|||!ports/a/x/port.vars:0 target t:a/y:z
+-|^FLAVORS=f g~f_RUN_DEPENDS=x~g_PKGNAMEPREFIX=a b|||!ports/a/x/port.vars:0 bad dependency x
+-|^FLAVORS=f g~g_RUN_DEPENDS=x~f_PKGNAMEPREFIX=a b|||!ports/a/x/port.vars:0 bad value PKGNAMEPREFIX
+-|^FLAVORS=f g~g_RUN_DEPENDS=x|||!ports/a/x/port.vars:0 bad dependency x
+-|^FLAVORS=|||= a/x* x-1.0
+-|^FLAVORS=py39 py311|||= a/x@py39* x-1.0; a/x@py311 x-1.0
+-|^FLAVORS=f g h~f_PKGNAMESUFFIX=-f~g_IGNORE=no g|||= a/x@f* x-f-1.0; a/x@g x-1.0 (no g); a/x@h x-1.0
+-|^OPTIONS_DEFINE=B A|a_x_SET=A||= a/x* x-1.0 +A -B
+-|^OPTIONS_DEFINE=A|a_y_SET=A||= a/x* x-1.0 -A
+OPTIONS_FILE_SET=B|^OPTIONS_DEFINE=B A~OPTIONS_DEFAULT=A|OPTIONS_UNSET=B A||= a/x* x-1.0 -A +B
+-|^OPTIONS_DEFINE=A~FLAVORS=f g~OPTIONS_DEFAULT=A|||= a/x@f* x-1.0 +A; a/x@g x-1.0 +A
+-|^BROKEN=c~FORBIDDEN=b~IGNORE=a|||= a/x* x-1.0 (a)
+-|^BROKEN=c~FORBIDDEN=b|||= a/x* x-1.0 (is forbidden: b)
+-|^BROKEN=c|||= a/x* x-1.0 (is marked as broken: c)
+-|^BROKEN=c||t|= a/x* x-1.0
+-|^BROKEN=c~FORBIDDEN=b||t|= a/x* x-1.0 (is forbidden: b)
+-|^BROKEN=c|TRYBROKEN=yes||= a/x* x-1.0 (is marked as broken: c)
+-|^BROKEN=~IGNORE=|||= a/x* x-1.0";
+
+/// The bytes that a case's part stands for.
+fn decoded(alloc: Global, part: &[u8]) -> Result<Vec<u8>, AllocError> {
+    let mut bytes = Vec::new(alloc);
+    for byte in part {
+        match *byte {
+            b'~' => bytes.push(b'\n')?,
+            b'^' => bytes.extend_from_slice(b"PORTNAME=x\nPORTVERSION=1.0\n")?,
+            other => bytes.push(other)?,
+        }
+    }
+    Ok(bytes)
+}
+
+fn origin(alloc: Global) -> Result<Origin, Fail> {
+    Ok(Origin {
+        category: Text::literal(alloc, b"a")?,
+        port: Text::literal(alloc, b"x")?,
+    })
+}
+
+/// Puts a file into a list, if it is there.
+fn push_file(alloc: Global, files: &mut Files, path: &[u8], part: &[u8]) -> Result<(), Fail> {
+    if part != b"-".as_slice() {
+        files.push(FileItem {
+            path: Path::from_bytes(alloc, path)?,
+            bytes: Bytes::from_vec(decoded(alloc, part)?),
+        })?;
+    }
+    Ok(())
+}
+
+/// A tree with the port's two files, with calls that fail.
+fn tree(alloc: Global, options: &[u8], vars: &[u8], fails: Fails) -> Result<MemTree, Fail> {
+    let mut files = Sequence::new(alloc);
+    push_file(alloc, &mut files, b"etc/options/a_x/options", options)?;
+    push_file(alloc, &mut files, b"ports/a/x/port.vars", vars)?;
+    Ok(MemTree::new(alloc, files, fails)?)
+}
+
+/// Puts a word and some texts at the end of a line, with blanks between.
+fn push_texts(out: &mut Vec<u8>, word: &[u8], texts: &[&Text]) -> Result<(), AllocError> {
+    out.extend_from_slice(word)?;
+    for text in texts {
+        out.push(b' ')?;
+        out.extend_from_slice(text.bytes())?;
+    }
+    Ok(())
+}
+
+fn push_node(out: &mut Vec<u8>, node: &NodeInfo) -> Result<(), AllocError> {
+    push_texts(out, b"", &[&node.node])?;
+    push_texts(
+        out,
+        if node.is_default { b"*" } else { b"" },
+        &[&node.desc.name],
+    )?;
+    for option in node.options.as_slice() {
+        out.extend_from_slice(if option.on { b" +" } else { b" -" })?;
+        out.extend_from_slice(option.name.bytes())?;
+    }
+    if let Some(reason) = &node.ignored {
+        out.extend_from_slice(b" (")?;
+        out.extend_from_slice(reason.bytes())?;
+        out.push(b')')?;
+    }
+    Ok(())
+}
+
+fn push_nodes(out: &mut Vec<u8>, nodes: &NodeInfos) -> Result<(), AllocError> {
+    out.push(b'=')?;
+    for at in 0..nodes.len() {
+        if at > 0 {
+            out.push(b';')?;
+        }
+        push_node(out, &nodes.as_slice()[at])?;
+    }
+    Ok(())
+}
+
+fn push_kind(alloc: Global, out: &mut Vec<u8>, kind: &PortKind) -> Result<(), Fail> {
+    match kind {
+        PortKind::Line(line) => out.extend_from_slice(line.to_string(alloc)?.as_str().as_bytes())?,
+        PortKind::Undefined { name } => push_texts(out, b"undefined", &[name])?,
+        PortKind::Group { group, on } => {
+            push_texts(out, b"group", &[group])?;
+            for name in on.as_slice() {
+                push_texts(out, b"", &[name])?;
+            }
+        }
+        PortKind::Prevented { a, b } => push_texts(out, b"prevented", &[a, b])?,
+        PortKind::BadFlavor { flavor } => push_texts(out, b"bad flavor", &[flavor])?,
+        PortKind::Missing { name } => push_texts(out, b"missing", &[name])?,
+        PortKind::BadValue { name } => push_texts(out, b"bad value", &[name])?,
+        PortKind::BadDepend { entry } => push_texts(out, b"bad dependency", &[entry])?,
+        PortKind::Target { entry } => push_texts(out, b"target", &[entry])?,
+        PortKind::Absent => out.extend_from_slice(b"absent")?,
+        PortKind::BadMoved => out.extend_from_slice(b"bad line of MOVED")?,
+    }
+    Ok(())
+}
+
+fn push_error(alloc: Global, out: &mut Vec<u8>, error: &IndexError) -> Result<(), Fail> {
+    match error {
+        IndexError::BadPort { path, line, kind } => {
+            out.extend_from_slice(format!(in alloc; "!{path}:{line} ")?.as_str().as_bytes())?;
+            push_kind(alloc, out, kind)
+        }
+        _ => Err(Fail::new("another refusal")),
+    }
+}
+
+/// What a port's files give, in the form of a case's answer.
+fn answer<T: Tree>(
+    alloc: Global,
+    tree: &mut T,
+    make: &[u8],
+    try_broken: bool,
+) -> Result<Vec<u8>, Fail> {
+    let make = read_make(alloc, decoded(alloc, make)?.as_slice())?;
+    let mut out = Vec::new(alloc);
+    match read_port(alloc, tree, &make, try_broken, &origin(alloc)?) {
+        Ok(nodes) => push_nodes(&mut out, &nodes)?,
+        Err(error) => push_error(alloc, &mut out, &error)?,
+    }
+    Ok(out)
+}
+
+#[test]
+fn ports(rt: HostRuntime) -> Result<(), Fail> {
+    let alloc = rt.alloc();
+    for case in CASES.split(|b| *b == b'\n') {
+        let mut fields = case.split(|b| *b == b'|');
+        let options = fields.next().unwrap_or_default();
+        let vars = fields.next().unwrap_or_default();
+        let make = fields.next().unwrap_or_default();
+        let try_broken = fields.next().unwrap_or_default() == b"t".as_slice();
+        let mut tree = tree(alloc, options, vars, Sequence::new(alloc))?;
+        let found = answer(alloc, &mut tree, make, try_broken)?;
+        assert!(rt; found.as_slice() == fields.next().unwrap_or_default());
+    }
+    Ok(())
+}
+
+/// Whether a port gives TreeFault where one read fails.
+fn is_tree_fault(alloc: Global, number: u32) -> Result<bool, Fail> {
+    let fails = Sequence::from_slice(
+        alloc,
+        &[Failing {
+            call: CallKind::Bytes,
+            number,
+        }],
+    )?;
+    let mut tree = tree(alloc, b"-", b"^", fails)?;
+    let make = read_make(alloc, b"")?;
+    let read = read_port(alloc, &mut tree, &make, false, &origin(alloc)?);
+    Ok(matches!(&read, Err(IndexError::TreeFault)) && tree.faults() == 1)
+}
+
+#[test]
+fn reads_that_fail(rt: HostRuntime) -> Result<(), Fail> {
+    let alloc = rt.alloc();
+    assert!(rt; is_tree_fault(alloc, 1)?);
+    assert!(rt; is_tree_fault(alloc, 2)?);
+    assert!(rt; !is_tree_fault(alloc, 3)?);
+    Ok(())
+}
+
+/// What a port gives whose description has so many bytes more than the two variables need.
+fn answer_with(alloc: Global, more: usize) -> Result<Vec<u8>, Fail> {
+    let mut vars = Vec::from_slice(alloc, b"^")?;
+    for at in 0..more {
+        vars.push(if at % 64 == 0 { b'~' } else { b'#' })?;
+    }
+    let mut tree = tree(alloc, b"-", vars.as_slice(), Sequence::new(alloc))?;
+    answer(alloc, &mut tree, b"", false)
+}
+
+#[test]
+fn long_files(rt: HostRuntime) -> Result<(), Fail> {
+    let alloc = rt.alloc();
+    let good = b"= a/x* x-1.0".as_slice();
+    let long = b"!ports/a/x/port.vars:0 too long".as_slice();
+    assert!(rt; answer_with(alloc, 65_536 - 27)?.as_slice() == good);
+    assert!(rt; answer_with(alloc, 65_537 - 27)?.as_slice() == long);
+    assert!(rt; answer_with(alloc, 65_538 - 27)?.as_slice() == long);
+    Ok(())
+}
+
+/// How many options or dependencies a refusal counts, and which of them.
+fn counted(alloc: Global, line: &[u8], word: &[u8], count: usize) -> Result<(Which, u64), Fail> {
+    let mut vars = Vec::from_slice(alloc, line)?;
+    for at in 0..count {
+        vars.extend_from_slice(word)?;
+        vars.push(b'a' + (at / 26 % 26) as u8)?;
+        vars.push(b'a' + (at % 26) as u8)?;
+    }
+    let mut tree = tree(alloc, b"-", vars.as_slice(), Sequence::new(alloc))?;
+    let make = read_make(alloc, b"")?;
+    match read_port(alloc, &mut tree, &make, false, &origin(alloc)?) {
+        Err(IndexError::Limit { which, count }) => Ok((which, count)),
+        _ => Err(Fail::new("no limit")),
+    }
+}
+
+#[test]
+fn limits(rt: HostRuntime) -> Result<(), Fail> {
+    let alloc = rt.alloc();
+    assert!(rt; counted(alloc, b"^OPTIONS_DEFINE=", b" O", 257)? == (Which::Options, 257));
+    assert!(rt; counted(alloc, b"^RUN_DEPENDS=", b" t:b/", 300)? == (Which::Depends, 300));
+    Ok(())
+}
