@@ -23,7 +23,7 @@ there nodes at node l e = slice_get-get_or nodes at node l ∙ ap Some (sym e)
 
 -- the node has a twin behind it
 twins_at : (node other : NodeInfo) (more : List NodeInfo) → find (are_twins node) more ≡ Some other → first_twins (node ∷ more) ≡ Some (node, other)
-twins_at node other more e = ap (λ o. elim o [ Some other ↦ Some (node, other) | None ↦ first_twins more ]) e
+twins_at node other more e = ap (λ o. elim o [ | Some other ↦ Some (node, other) | None ↦ first_twins more ]) e
 
 pub twin_here : (nodes : List NodeInfo) (at other : ℕ) (node : NodeInfo) → at < length nodes → node ≡ get_or nodes at node → IsFirstNamed nodes (at + 1) node.desc.name (Some other)
     → IsFirstTwins nodes at (Some (record { least = at; other = other }))
@@ -37,7 +37,7 @@ pub twin_later : (nodes : List NodeInfo) (at : ℕ) (node : NodeInfo) (found : O
     → IsFirstTwins nodes (at + 1) found → IsFirstTwins nodes at found
 twin_later nodes at node found l e h later =
     let here : first_twins (drop at nodes) ≡ first_twins (drop (at + 1) nodes) =
-    ap first_twins (next nodes at node l e) ∙ ap (λ o. elim o [ Some other ↦ Some (node, other) | None ↦ first_twins (drop (at + 1) nodes) ]) h.node in
+    ap first_twins (next nodes at node l e) ∙ ap (λ o. elim o [ | Some other ↦ Some (node, other) | None ↦ first_twins (drop (at + 1) nodes) ]) h.node in
     subst (AreNumbers nodes found) (sym here) later
 
 -- behind the last node there is none
@@ -87,8 +87,8 @@ pub names_apart : (nodes : List NodeInfo) → first_twins nodes ≡ None → IsD
 unfolding IsDistinct
 names_apart [] h = tt
 names_apart (node ∷ nodes) h =
-    elim (find (are_twins node) nodes) as (λ o. find (are_twins node) nodes ≡ o → elim o [ Some other ↦ Some (node, other) | None ↦ first_twins nodes ] ≡ None
-    → IsDistinct bytes_eq (map (λ node. node.desc.name) (node ∷ nodes))) [
+    elim (find (are_twins node) nodes) as (λ o. find (are_twins node) nodes ≡ o → elim o [ | Some other ↦ Some (node, other) | None ↦ first_twins nodes ] ≡ None
+        → IsDistinct bytes_eq (map (λ node. node.desc.name) (node ∷ nodes))) [
       | Some other ↦ λ _ e. absurd (some_none e)
       | None ↦ λ o e. (names_mapped node nodes (none_like (are_twins node) nodes o), names_apart nodes e)
     ] refl h
