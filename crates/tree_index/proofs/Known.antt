@@ -3,6 +3,7 @@ use Rattle.std.proofs.Common.{◌≡◌, ℕ, ◌<◌, Bool, true, false, List, 
 use Rattle.std.specs.Prelude.{Some, position, filter, bytes_eq, ◌||◌, ◌&&◌}
 use Rattle.std.specs.Option.{is_some}
 use Rattle.std.specs.List.{AllByRecursion, list_any}
+use Rattle.std.proofs.lemmas.List.Elements.{All-from_recursion}
 use Rattle.std.proofs.lemmas.List.Quantifiers.{position-Some}
 use Rattle.std.proofs.lemmas.Slice.Eq.{bytes_eq-Decides}
 use Rattle.std.proofs.lemmas.Bool.Decides.{nat_tests}
@@ -111,3 +112,10 @@ number_there nodes name tree =
 -- the same of the names of an index
 pub number_known : (nodes : List NodeInfo) (names : List (List ℕ)) (name : List ℕ) → IsIndex nodes names → is_some (number_in nodes name) ≡ is_among names name
 number_known nodes names name index = number_there nodes name index.tree ∙ sym (index.known name)
+
+-- the origin of a node means a node: the port's default is there
+pub origin_numbered : (nodes : List NodeInfo) (at : ℕ) (d : NodeInfo) → AreTreeNodes nodes → at < length nodes → is_some (number_in nodes (origin_name (get_or nodes at d).origin)) ≡ true
+origin_numbered nodes at d tree within =
+    let origin : Origin = (get_or nodes at d).origin in
+    let one : length (filter (is_default_of origin) nodes) ≡ 1 = All-from_recursion (λ node. length (filter (is_default_of node.origin) nodes) ≡ 1) nodes tree.one_default at d within in
+    position_some (is_meant (origin_name origin)) nodes ∙ default_there origin (origin_name origin) ((bytes_eq-Decides (origin_name origin) (origin_name origin)).1 refl) nodes (omega (arith, one))
