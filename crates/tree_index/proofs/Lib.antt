@@ -4,3 +4,4 @@ pub mod Steps
 pub mod InOrder
 pub mod PortOptions
 pub mod PortForm
+pub mod NodesSoFar

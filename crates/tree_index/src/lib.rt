@@ -8,6 +8,8 @@ mod place;
 mod port_fault;
 mod port_node;
 mod port_reading;
+#[cfg(test)]
+mod tests;
 mod var_file;
 
 pub use fault::{IndexError, PortKind};
