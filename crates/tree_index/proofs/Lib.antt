@@ -5,3 +5,4 @@ pub mod InOrder
 pub mod PortOptions
 pub mod PortForm
 pub mod NodesSoFar
+pub mod PortSteps

@@ -151,7 +151,6 @@ fn nodes_by(
 /// checks of each flavor in the order of FLAVORS. TreeFault exactly where the tree failed; NoMemory for want of memory alone.
 ///
 /// Two files of at most 65,537 bytes are read, and a flavor costs what `describe` does and a copy of the options' states.
-#[tactic(auto, unfolding(crate::specs::PortNodes::port_nodes))]
 pub(crate) fn read_port<T: Tree>(
     alloc: Global,
     tree: &mut T,
