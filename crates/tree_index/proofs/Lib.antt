@@ -14,3 +14,5 @@ pub mod InTurn
 pub mod Puts
 pub mod NamedEntries
 pub mod TwinNodes
+pub mod NodesSoFar
+pub mod PortSteps
