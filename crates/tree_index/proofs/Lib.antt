@@ -10,3 +10,6 @@ pub mod InTurn
 pub mod Puts
 pub mod NamedEntries
 pub mod TwinNodes
+pub mod NameLists
+pub mod Whole
+pub mod Gathering
