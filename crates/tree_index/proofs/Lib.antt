@@ -13,3 +13,4 @@ pub mod TwinNodes
 pub mod NameLists
 pub mod Whole
 pub mod Gathering
+pub mod CategorySteps
