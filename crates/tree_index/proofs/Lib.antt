@@ -16,3 +16,7 @@ pub mod NamedEntries
 pub mod TwinNodes
 pub mod NodesSoFar
 pub mod PortSteps
+pub mod NameLists
+pub mod Whole
+pub mod Gathering
+pub mod CategorySteps

@@ -60,3 +60,10 @@ filter_append p (x ∷ xs) ys =
 pub filter_same : {X : Type 0} (p q : X → Bool) (xs : List X) → AllByRecursion (λ x. p x ≡ q x) xs → filter p xs ≡ filter q xs
 filter_same p q [] h = refl
 filter_same p q (x ∷ xs) h = (λ i. cond (h.0 i) (x ∷ filter_same p q xs h.1 i) (filter_same p q xs h.1 i))
+
+-- what holds of each pair, told the other way round
+pub transposed : {X Y : Type 0} (R : X → Y → Type 0) (xs : List X) (ys : List Y) → AllByRecursion (λ x. AllByRecursion (R x) ys) xs → AllByRecursion (λ y. AllByRecursion (λ x. R x y) xs) ys
+transposed R xs [] h = tt
+transposed R xs (y ∷ ys) h =
+    (all_weaker (λ x. AllByRecursion (R x) (y ∷ ys)) (λ x. R x y) xs (λ x rows. rows.0) h,
+      transposed R xs ys (all_weaker (λ x. AllByRecursion (R x) (y ∷ ys)) (λ x. AllByRecursion (R x) ys) xs (λ x rows. rows.1) h))

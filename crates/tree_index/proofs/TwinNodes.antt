@@ -8,11 +8,13 @@ use Rattle.std.specs.List.{AllByRecursion, IsDistinct}
 use Rattle.std.specs.FinMap as finite
 use Rattle.std.specs.FinMap.{FinMap, get-insert}
 use Rattle.std.proofs.lemmas.List.{drop_more, drop_all}
-use Rattle.std.proofs.lemmas.Option.{slice_get-get_or, none-some}
+use Rattle.std.proofs.lemmas.Option.{slice_get-get_or, get_or_from_slice_get, none-some}
 use Rattle.std.proofs.lemmas.Map.Keys.{IsDistinct-cons}
 use Rattle.tree_index.specs.declared.node.NodeInfo.{NodeInfo}
 use Rattle.tree_index.specs.declared.twins.Twins.{Twins}
-use Rattle.tree_index.specs.Tree.{are_twins, first_twins}
+use Rattle.std.specs.declared.result.Result.TheVariants.{Ok, Err}
+use Rattle.tree_index.specs.declared.fault.IndexError.TheVariants.{DupName}
+use Rattle.tree_index.specs.Tree.{are_twins, first_twins, apart}
 use Rattle.tree_index.specs.Twins.{IsFirstNamed, IsSeen, AreNumbers, IsFirstTwins}
 
 next : (nodes : List NodeInfo) (at : ℕ) (node : NodeInfo) → at < length nodes → node ≡ get_or nodes at node → drop at nodes ≡ node ∷ drop (at + 1) nodes
@@ -21,9 +23,15 @@ next nodes at node l e = drop_more nodes at node l ∙ ap (λ n. n ∷ drop (at 
 there : (nodes : List NodeInfo) (at : ℕ) (node : NodeInfo) → at < length nodes → node ≡ get_or nodes at node → slice_get nodes at ≡ Some node
 there nodes at node l e = slice_get-get_or nodes at node l ∙ ap Some (sym e)
 
--- the node has a twin behind it
+-- the first twins, by the node's first twin behind it and the first twins behind it
+abbrev twins_by : NodeInfo → Option (NodeInfo × NodeInfo) → Option NodeInfo → Option (NodeInfo × NodeInfo)
+twins_by node later twin = elim twin [
+  | Some other ↦ Some (node, other)
+  | None ↦ later
+]
+
 twins_at : (node other : NodeInfo) (more : List NodeInfo) → find (are_twins node) more ≡ Some other → first_twins (node ∷ more) ≡ Some (node, other)
-twins_at node other more e = ap (λ o. elim o [ | Some other ↦ Some (node, other) | None ↦ first_twins more ]) e
+twins_at node other more e = ap (twins_by node (first_twins more)) e
 
 pub twin_here : (nodes : List NodeInfo) (at other : ℕ) (node : NodeInfo) → at < length nodes → node ≡ get_or nodes at node → IsFirstNamed nodes (at + 1) node.desc.name (Some other)
     → IsFirstTwins nodes at (Some (record { least = at; other = other }))
@@ -37,7 +45,7 @@ pub twin_later : (nodes : List NodeInfo) (at : ℕ) (node : NodeInfo) (found : O
     → IsFirstTwins nodes (at + 1) found → IsFirstTwins nodes at found
 twin_later nodes at node found l e h later =
     let here : first_twins (drop at nodes) ≡ first_twins (drop (at + 1) nodes) =
-    ap first_twins (next nodes at node l e) ∙ ap (λ o. elim o [ | Some other ↦ Some (node, other) | None ↦ first_twins (drop (at + 1) nodes) ]) h.node in
+    ap first_twins (next nodes at node l e) ∙ ap (twins_by node (first_twins (drop (at + 1) nodes))) h.node in
     subst (AreNumbers nodes found) (sym here) later
 
 -- behind the last node there is none
@@ -80,15 +88,34 @@ names_mapped : (node : NodeInfo) (nodes : List NodeInfo) → AllByRecursion (λ 
 names_mapped node [] h = tt
 names_mapped node (other ∷ nodes) h = (h.0, names_mapped node nodes h.1)
 
-some_none : {node other : NodeInfo} → (let found : Option (NodeInfo × NodeInfo) = Some (node, other) in found) ≡ None → ⊥
-some_none {node} {other} e = none-some (node, other) (sym e)
-
 pub names_apart : (nodes : List NodeInfo) → first_twins nodes ≡ None → IsDistinct bytes_eq (map (λ node. node.desc.name) nodes)
 unfolding IsDistinct
 names_apart [] h = tt
 names_apart (node ∷ nodes) h =
-    elim (find (are_twins node) nodes) as (λ o. find (are_twins node) nodes ≡ o → elim o [ | Some other ↦ Some (node, other) | None ↦ first_twins nodes ] ≡ None
+    elim (find (are_twins node) nodes) as (λ o. find (are_twins node) nodes ≡ o → twins_by node (first_twins nodes) o ≡ None
         → IsDistinct bytes_eq (map (λ node. node.desc.name) (node ∷ nodes))) [
-      | Some other ↦ λ _ e. absurd (some_none e)
+      | Some other ↦ λ _ e. absurd (none-some (node, other) (sym e))
       | None ↦ λ o e. (names_mapped node nodes (none_like (are_twins node) nodes o), names_apart nodes e)
     ] refl h
+
+-- what is found from the first node on
+none_numbered : (nodes : List NodeInfo) (pair : Option (NodeInfo × NodeInfo)) → AreNumbers nodes None pair → pair ≡ None
+none_numbered nodes None h = refl
+none_numbered nodes (Some pair) h = absurd h
+
+pub no_first_twins : (nodes : List NodeInfo) (found : Option Twins) → found ≡ None → IsFirstTwins nodes 0 found → first_twins nodes ≡ None
+no_first_twins nodes found e h = none_numbered nodes (first_twins nodes) (subst (λ f. AreNumbers nodes f (first_twins nodes)) e h)
+
+some_numbered : (nodes : List NodeInfo) (twins : Twins) (a b : NodeInfo) (pair : Option (NodeInfo × NodeInfo)) → a ≡ get_or nodes twins.least a → b ≡ get_or nodes twins.other b
+    → AreNumbers nodes (Some twins) pair → pair ≡ Some (a, b)
+some_numbered nodes twins a b None p q h = absurd h
+some_numbered nodes twins a b (Some pair) p q h =
+    let first : a ≡ pair.0 = p ∙ get_or_from_slice_get nodes twins.least pair.0 a h.0 in
+    let second : b ≡ pair.1 = q ∙ get_or_from_slice_get nodes twins.other pair.1 b h.1 in
+    (λ i. Some (sym first i, sym second i))
+
+pub refused_by : (nodes : List NodeInfo) (found : Option Twins) (twins : Twins) (a b : NodeInfo) → found ≡ Some twins → a ≡ get_or nodes twins.least a → b ≡ get_or nodes twins.other b
+    → IsFirstTwins nodes 0 found → apart nodes ≡ Err (DupName a.node b.node a.desc.name)
+refused_by nodes found twins a b e p q h =
+    ap (λ pair. elim pair [ | None ↦ Ok nodes | Some twins ↦ Err (DupName twins.0.node twins.1.node twins.0.desc.name) ])
+    (some_numbered nodes twins a b (first_twins nodes) p q (subst (λ f. AreNumbers nodes f (first_twins nodes)) e h))

@@ -1,6 +1,7 @@
 // The lists of categories, and of a category's ports.
-ghost use Rattle.std.specs.Prelude.{◌≡◌, ◌≢◌, Ok, Err, IsTrue, IfOk, IfErr};
+ghost use Rattle.std.specs.Prelude.{◌≡◌, ◌≢◌, find, Ok, Err, IsTrue, IfOk, IfErr};
 ghost use Rattle.std.specs.List.{list_all};
+ghost use Rattle.std.specs.Option.{option_copied};
 ghost use Rattle.bulk_base.specs.Names as names;
 ghost use Rattle.option_set.specs.Named as named;
 ghost use Rattle.tree_index.specs.Facts.{IsCaused};
@@ -54,6 +55,12 @@ fn in_order(alloc: Global, words: &[Text]) -> Result<Texts, NoMemory>
     set.keys(alloc)
 }
 
+fn first_bad(words: &Texts) -> Option<&Text>
+    ensures { option_copied result ≡ find files.is_no_port_name words.now }
+{
+    words.iter().find(|word| is_no_port_name(word))
+}
+
 /// Words that are names of categories or ports, in byte order, each once. BadPort exactly where one is no such name.
 fn names_among(alloc: Global, path: &Path, words: &Texts) -> Result<Texts, IndexError>
     ensures ok { IfOk result (λ list. files.names_among path.now words.now ≡ Ok list) }
@@ -61,7 +68,7 @@ fn names_among(alloc: Global, path: &Path, words: &Texts) -> Result<Texts, Index
     ensures form { IfOk result IsNameList }
     ensures quiet { IfErr result (λ e. e ≢ IndexError.TreeFault) }
 {
-    match words.iter().find(|word| is_no_port_name(word)) {
+    match first_bad(words) {
         None => Ok(in_order(alloc, words.as_slice())?),
         Some(_) => {
             let name = Text::literal(alloc, b"SUBDIR")?;
