@@ -14,3 +14,6 @@ pub mod NameLists
 pub mod Whole
 pub mod Gathering
 pub mod CategorySteps
+pub mod MovedBytes
+pub mod Ordered
+pub mod TreeSteps

@@ -20,7 +20,8 @@ use std::alloc::Global;
 // The most nodes of a tree.
 const MOST_NODES: usize = 16_384;
 
-// Refuses more than 16,384 nodes: Limit of Nodes with their number.
+/// Refuses more than 16,384 nodes: Limit of Nodes with their number.
+#[tactic(auto, unfolding(crate::specs::Tree::few))]
 fn refuse_many(nodes: &[NodeInfo]) -> Result<(), IndexError>
     ensures ok { OnOk result (few nodes.now ≡ Ok nodes.now) }
     ensures refused { IfErr result (λ e. few nodes.now ≡ Err e) }
