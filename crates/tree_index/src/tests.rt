@@ -1,2 +1,3 @@
 // Cases by hand from docs/FORMATS.md, "The tree folder".
 mod ports;
+mod trees;
