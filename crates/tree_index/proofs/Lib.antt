@@ -17,3 +17,5 @@ pub mod CategorySteps
 pub mod MovedBytes
 pub mod Ordered
 pub mod TreeSteps
+pub mod NodesSoFar
+pub mod PortSteps

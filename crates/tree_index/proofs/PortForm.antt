@@ -1,5 +1,5 @@
 -- The nodes of one port are in form.
-use Rattle.std.proofs.Common.{◌≡◌, ℕ, Bool, true, false, List, [], ◌∷◌, ◌++◌, length, ap, subst, sym, ◌∙◌, refl, arith, Ok, Err, Option, Some, None, Result}
+use Rattle.std.proofs.Common.{◌≡◌, ℕ, ◌+◌, Bool, true, false, List, [], ◌∷◌, ◌++◌, length, ap, subst, sym, ◌∙◌, refl, arith, Ok, Err, Option, Some, None, Result}
 use Rattle.std.specs.Prelude.{map, filter, cond, nat_le, bytes_eq, IsTrue, IfSome, codes}
 use Rattle.std.specs.List.{AllByRecursion, IsDistinct}
 use Rattle.std.specs.FinMap as finite
@@ -153,7 +153,7 @@ counted p (x ∷ xs) = count_one x (filter p xs) (p x) ∙ ap (λ n. length (con
 
 no_default : (more : List (List ℕ)) → count (map (λ (f : Flavored). f.1) (map other_flavor more)) ≡ 0
 no_default [] = refl
-no_default (f ∷ more) = no_default more
+no_default (f ∷ more) = omega (arith, no_default more)
 
 one_default : (flavors : List (List ℕ)) → count (map (λ (f : Flavored). f.1) (with_default flavors)) ≡ 1
 one_default [] = refl

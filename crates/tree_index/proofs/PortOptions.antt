@@ -1,6 +1,6 @@
 -- The options of a port are in form.
 use Rattle.std.proofs.Common.{◌≡◌, ℕ, Bool, true, false, List, [], ◌∷◌, ◌++◌, ap, subst, sym, ◌∙◌, refl, arith, Ok, Err, Option, Some, None}
-use Rattle.std.specs.Prelude.{map, find, not, ◌&&◌, cond}
+use Rattle.std.specs.Prelude.{map, not, ◌&&◌, cond, codes}
 use Rattle.std.specs.Option.{option_map, option_or}
 use Rattle.std.specs.List.{list_all}
 use Rattle.std.proofs.lemmas.Bool.{and_parts}
@@ -14,10 +14,8 @@ use Rattle.port_desc.proofs.Refused.{same_ok, no_err}
 use Rattle.option_set.specs.declared.fault.OptionError.{OptionError}
 use Rattle.option_set.specs.declared.fault.OptionError.TheVariants.{Undefined}
 use Rattle.option_set.specs.declared.layers.Layers.{Layers}
-use Rattle.option_set.specs.declared.defining.Group.{Group}
-use Rattle.option_set.specs.declared.defining.Defining.{Defining}
 use Rattle.option_set.specs.Named.{is_option_name, in_order}
-use Rattle.option_set.specs.Defined.{defining, defining_words, option_words, words_of_groups, members_of, options_of}
+use Rattle.option_set.specs.Defined.{defining, defining_words, option_words, options_of, words_in, groups_in, words_of_groups, members_of}
 use Rattle.option_set.specs.Implied.{on_in}
 use Rattle.option_set.specs.Refused.{words_refused, state_refused, no_name, too_many, undefined, not_defined, naming_words}
 use Rattle.option_set.specs.Chosen.{chosen, switches, unless}
@@ -45,17 +43,43 @@ module _ (p : List ℕ → Bool) where
   joined : (a b : List (List ℕ)) → list_all p a ≡ true → list_all p b ≡ true → list_all p (a ++ b) ≡ true
   joined a b h k = list_all-append p a b ∙ both (list_all p a) (list_all p b) h k
 
-  members_pass : (groups : List Group) → list_all p (words_of_groups groups) ≡ true → list_all p (members_of groups) ≡ true
-  members_pass groups h = (halves (map (λ group. group.name) groups) (members_of groups) h).1
+  -- words of which some name groups
+  without_names : (words options names members : List (List ℕ)) → (list_all p words ≡ true → list_all p options ≡ true)
+      → list_all p (words ++ (names ++ members)) ≡ true → list_all p (options ++ members) ≡ true
+  without_names words options names members f h =
+      let m = halves words (names ++ members) h in
+      joined options members (f m.0) (halves names members m.1).1
 
-  with_groups : (words options : List (List ℕ)) (groups : List Group) → (list_all p words ≡ true → list_all p options ≡ true)
-      → list_all p (words ++ words_of_groups groups) ≡ true → list_all p (options ++ members_of groups) ≡ true
-  with_groups words options groups f h =
-      let m = halves words (words_of_groups groups) h in
-      joined options (members_of groups) (f m.0) (members_pass groups m.1)
+  module _ (vars : Vars) where
+    behind_groups : (words options : List (List ℕ)) (variable prefix : List ℕ) → (list_all p words ≡ true → list_all p options ≡ true)
+        → list_all p (words ++ words_of_groups (groups_in vars variable prefix)) ≡ true → list_all p (options ++ members_of (groups_in vars variable prefix)) ≡ true
+    behind_groups words options variable prefix f h =
+        without_names words options (map (λ group. group.name) (groups_in vars variable prefix)) (members_of (groups_in vars variable prefix)) f h
 
-  options_pass : (d : Defining) → list_all p (defining_words d) ≡ true → list_all p (option_words d) ≡ true
-  options_pass d = with_groups _ _ d.multi (with_groups _ _ d.radio (with_groups _ _ d.single (with_groups d.alone d.alone d.any (λ h. h))))
+    abbrev any_words : List (List ℕ)
+    any_words = words_in vars (codes "OPTIONS_DEFINE") ++ words_of_groups (groups_in vars (codes "OPTIONS_GROUP") (codes "OPTIONS_GROUP_"))
+
+    abbrev any_options : List (List ℕ)
+    any_options = words_in vars (codes "OPTIONS_DEFINE") ++ members_of (groups_in vars (codes "OPTIONS_GROUP") (codes "OPTIONS_GROUP_"))
+
+    abbrev single_words : List (List ℕ)
+    single_words = any_words ++ words_of_groups (groups_in vars (codes "OPTIONS_SINGLE") (codes "OPTIONS_SINGLE_"))
+
+    abbrev single_options : List (List ℕ)
+    single_options = any_options ++ members_of (groups_in vars (codes "OPTIONS_SINGLE") (codes "OPTIONS_SINGLE_"))
+
+    abbrev radio_words : List (List ℕ)
+    radio_words = single_words ++ words_of_groups (groups_in vars (codes "OPTIONS_RADIO") (codes "OPTIONS_RADIO_"))
+
+    abbrev radio_options : List (List ℕ)
+    radio_options = single_options ++ members_of (groups_in vars (codes "OPTIONS_RADIO") (codes "OPTIONS_RADIO_"))
+
+    options_pass : list_all p (defining_words (defining vars)) ≡ true → list_all p (option_words (defining vars)) ≡ true
+    options_pass =
+        behind_groups radio_words radio_options (codes "OPTIONS_MULTI") (codes "OPTIONS_MULTI_")
+        (behind_groups single_words single_options (codes "OPTIONS_RADIO") (codes "OPTIONS_RADIO_")
+        (behind_groups any_words any_options (codes "OPTIONS_SINGLE") (codes "OPTIONS_SINGLE_")
+        (behind_groups (words_in vars (codes "OPTIONS_DEFINE")) (words_in vars (codes "OPTIONS_DEFINE")) (codes "OPTIONS_GROUP") (codes "OPTIONS_GROUP_") (λ h. h))))
 
 first_none : {A : Type 0} (a b : Option A) → option_or a b ≡ None → (a ≡ None) × (b ≡ None)
 first_none None b h = (refl, h)
@@ -65,12 +89,12 @@ no_word : (word : Option (List ℕ)) → undefined word ≡ None → word ≡ No
 no_word None h = refl
 no_word (Some word) h = cc
 
-names_good : (vars : Vars) (d : Defining) (options : List (List ℕ)) → words_refused vars d options ≡ None → no_name (defining_words d) ≡ None
+names_good : (vars : Vars) (options : List (List ℕ)) → words_refused vars (defining vars) options ≡ None → no_name (defining_words (defining vars)) ≡ None
 unfolding words_refused
-names_good vars d options h =
-    let a = first_none (too_many options) (option_or (undefined (no_name (defining_words d))) (undefined (not_defined (is_among options) (naming_words vars options)))) h in
-    let b = first_none (undefined (no_name (defining_words d))) (undefined (not_defined (is_among options) (naming_words vars options))) a.1 in
-    no_word (no_name (defining_words d)) b.0
+names_good vars options h =
+    let a = first_none (too_many options) (option_or (undefined (no_name (defining_words (defining vars)))) (undefined (not_defined (is_among options) (naming_words vars options)))) h in
+    let b = first_none (undefined (no_name (defining_words (defining vars)))) (undefined (not_defined (is_among options) (naming_words vars options))) a.1 in
+    no_word (no_name (defining_words (defining vars))) b.0
 
 allowed : {A : Type 0} (refusal : Option OptionError) (a b : A) → unless refusal a ≡ Ok b → (refusal ≡ None) × (a ≡ b)
 allowed None a b h = (refl, same_ok a b h)
@@ -84,13 +108,13 @@ switched (name ∷ options) on = ap (λ names. name ∷ names) (switched options
 pub chosen_sound : (vars : Vars) (layers : Layers) (options : List Switch) → chosen vars layers ≡ Ok options → IsOptionList options
 unfolding chosen
 chosen_sound vars layers options h =
-    let d = defining vars in
-    let defined = options_of d in
+    let defined = options_of (defining vars) in
+    let words = option_words (defining vars) in
     let on = on_in vars defined layers in
-    let m = allowed (option_or (words_refused vars d defined) (state_refused vars d on)) (switches defined on) options h in
-    let refused = first_none (words_refused vars d defined) (state_refused vars d on) m.0 in
-    let named : list_all is_option_name defined ≡ true = list_all-in_order is_option_name (option_words d) (options_pass is_option_name d (all_named (defining_words d) (names_good vars d defined refused.0))) in
+    let m = allowed (option_or (words_refused vars (defining vars) defined) (state_refused vars (defining vars) on)) (switches defined on) options h in
+    let refused = first_none (words_refused vars (defining vars) defined) (state_refused vars (defining vars) on) m.0 in
+    let named : list_all is_option_name defined ≡ true = list_all-in_order is_option_name words (options_pass is_option_name vars (all_named (defining_words (defining vars)) (names_good vars defined refused.0))) in
     subst IsOptionList m.1 (record {
-      order = subst IsAscending (sym (switched defined on)) (in_order-ascends (option_words d));
+      order = subst IsAscending (sym (switched defined on)) (in_order-ascends words);
       forms = ap (list_all names.is_option_name) (switched defined on) ∙ named;
     })

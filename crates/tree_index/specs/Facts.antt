@@ -61,7 +61,7 @@ IsAtWithin count (Moved old new) = Unit {0}
 pub record IsIndex (nodes : List NodeInfo) (names : List (List ℕ)) : Type 0 where
   pub tree : AreTreeNodes nodes
   pub range : AllByRecursion (λ node. AllByRecursion (λ target. IsAtWithin (length nodes) target.at) node.targets) nodes
-  pub names : (name : List ℕ) → is_among names name ≡ is_among (names_of nodes) name
+  pub known : (name : List ℕ) → is_among names name ≡ is_among (names_of nodes) name
 
 -- the count of the tree's faults never falls, a fault is answered only where it rose, and any other answer leaves it
 pub record IsCaused {X : Type 0} (before now : ℕ) (result : Result X IndexError) : Type 0 where

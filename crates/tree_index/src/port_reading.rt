@@ -1,5 +1,5 @@
 // The nodes of one port.
-ghost use Rattle.std.specs.Prelude.{◌≡◌, ◌≢◌, ◌∷◌, map, IsTrue, IfOk, IfErr, Ok, Err};
+ghost use Rattle.std.specs.Prelude.{◌≡◌, ◌≢◌, ◌∷◌, map, drop, IsTrue, IfOk, IfErr, Ok, Err};
 ghost use Rattle.std.specs.FinMap as finite;
 ghost use Rattle.conf_file.specs.Make.{layers_of};
 ghost use Rattle.option_set.specs.Chosen.{chosen};
@@ -80,6 +80,13 @@ fn nodes_behind(
     Ok(nodes)
 }
 
+/// The flavors but the first.
+fn behind_first(flavors: &[Text]) -> &[Text]
+    ensures { result.now ≡ drop 1 flavors.now }
+{
+    flavors.get(1..).unwrap_or_default()
+}
+
 /// The nodes for a port's flavors, the default first; one node where the port has no flavors.
 fn nodes_for(
     alloc: Global,
@@ -92,24 +99,10 @@ fn nodes_for(
     ensures ok { IfOk result (λ nodes. ports.nodes_for try_broken origin.now vars.now options.now (ports.with_default flavors.now) ≡ Ok nodes) }
     ensures refused { IfErr result (λ e. e ≢ DescError.NoMemory → ports.nodes_for try_broken origin.now vars.now options.now (ports.with_default flavors.now) ≡ Err e) }
 {
-    let default = read_node(
-        alloc,
-        try_broken,
-        origin,
-        vars,
-        flavors.first(),
-        true,
-        options,
-    )?;
-    nodes_behind(
-        alloc,
-        try_broken,
-        origin,
-        vars,
-        options,
-        default,
-        flavors.get(1..).unwrap_or(&[]),
-    )
+    let first = flavors.first();
+    let default = read_node(alloc, try_broken, origin, vars, first, true, options)?;
+    let others = behind_first(flavors);
+    nodes_behind(alloc, try_broken, origin, vars, options, default, others)
 }
 
 /// The nodes of a port by its options file's variables and its own: the first refusal among what is missing, the flavors,

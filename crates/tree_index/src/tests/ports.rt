@@ -1,4 +1,7 @@
 // Cases of one port: each check, its place among the others, and what a node is made of.
+ghost use Rattle.std.specs.Prelude.{IfOk};
+ghost use Rattle.tree_index.specs.Facts.{IsPlace};
+
 use crate::fault::{IndexError, PortKind};
 use crate::node::{NodeInfo, NodeInfos};
 use crate::port_reading::read_port;
@@ -63,7 +66,9 @@ fn decoded(alloc: Global, part: &[u8]) -> Result<Vec<u8>, AllocError> {
     Ok(bytes)
 }
 
-fn origin(alloc: Global) -> Result<Origin, Fail> {
+fn origin(alloc: Global) -> Result<Origin, Fail>
+    ensures { IfOk result IsPlace }
+{
     Ok(Origin {
         category: Text::literal(alloc, b"a")?,
         port: Text::literal(alloc, b"x")?,
@@ -161,16 +166,27 @@ fn push_error(alloc: Global, out: &mut Vec<u8>, error: &IndexError) -> Result<()
     }
 }
 
-/// What a port's files give, in the form of a case's answer.
+/// What reading the port gives.
+fn read<T: Tree>(
+    alloc: Global,
+    tree: &mut T,
+    make: &[u8],
+    try_broken: bool,
+) -> Result<Result<NodeInfos, IndexError>, Fail> {
+    let make = read_make(alloc, decoded(alloc, make)?.as_slice())?;
+    let origin = origin(alloc)?;
+    Ok(read_port(alloc, tree, &make, try_broken, &origin))
+}
+
+/// What the port's files give, in the form of a case's answer.
 fn answer<T: Tree>(
     alloc: Global,
     tree: &mut T,
     make: &[u8],
     try_broken: bool,
 ) -> Result<Vec<u8>, Fail> {
-    let make = read_make(alloc, decoded(alloc, make)?.as_slice())?;
     let mut out = Vec::new(alloc);
-    match read_port(alloc, tree, &make, try_broken, &origin(alloc)?) {
+    match read(alloc, tree, make, try_broken)? {
         Ok(nodes) => push_nodes(&mut out, &nodes)?,
         Err(error) => push_error(alloc, &mut out, &error)?,
     }
@@ -203,8 +219,7 @@ fn is_tree_fault(alloc: Global, number: u32) -> Result<bool, Fail> {
         }],
     )?;
     let mut tree = tree(alloc, b"-", b"^", fails)?;
-    let make = read_make(alloc, b"")?;
-    let read = read_port(alloc, &mut tree, &make, false, &origin(alloc)?);
+    let read = read(alloc, &mut tree, b"", false)?;
     Ok(matches!(&read, Err(IndexError::TreeFault)) && tree.faults() == 1)
 }
 
@@ -247,8 +262,7 @@ fn counted(alloc: Global, line: &[u8], word: &[u8], count: usize) -> Result<(Whi
         vars.push(b'a' + (at % 26) as u8)?;
     }
     let mut tree = tree(alloc, b"-", vars.as_slice(), Sequence::new(alloc))?;
-    let make = read_make(alloc, b"")?;
-    match read_port(alloc, &mut tree, &make, false, &origin(alloc)?) {
+    match read(alloc, &mut tree, b"", false)? {
         Err(IndexError::Limit { which, count }) => Ok((which, count)),
         _ => Err(Fail::new("no limit")),
     }
