@@ -1,10 +1,13 @@
 // Cases of whole trees: each file's place among the others, the order of the nodes, and what a tree is refused for.
 use crate::fault::{IndexError, PortKind};
-use crate::tree_reading::read_tree;
-use bulk_base::{Bytes, FileItem, Path, Sequence};
-use bulk_model::Which;
+use crate::node::NodeInfo;
+use crate::tree_reading::{read_tree, refuse_many};
+use bulk_base::{Bytes, FileItem, Path, Sequence, Text};
+use bulk_model::{Steps, Which};
 use conf_file::read_make;
 use outside::{CallKind, Fail as Failing, Fails, MemTree};
+use port_desc::Desc;
+use port_name::Origin;
 use std::alloc::{AllocError, Global};
 use std::test::Fail;
 
@@ -202,44 +205,52 @@ fn large_lists_of_moved_ports(rt: HostRuntime) -> Result<(), Fail> {
     Ok(())
 }
 
-/// Puts a port with so many flavors at the end of a case, and its name at the end of the list of ports.
-fn push_port(
-    case: &mut Vec<u8>,
-    list: &mut Vec<u8>,
-    name: u8,
-    flavors: usize,
-) -> Result<(), AllocError> {
-    list.extend_from_slice(&[b' ', name])?;
-    case.extend_from_slice(&[b';', b'a', b'/', name])?;
-    case.extend_from_slice(b":%q~FLAVORS=")?;
-    for at in 0..flavors {
-        let first = b'b' + (at / 676 % 25) as u8;
-        let second = b'a' + (at / 26 % 26) as u8;
-        case.extend_from_slice(&[first, second, b'a' + (at % 26) as u8, b' '])?;
-    }
-    Ok(())
+/// A node whose parts are all as small as they can be.
+fn small_node(alloc: Global) -> Result<NodeInfo, AllocError> {
+    Ok(NodeInfo {
+        node: Text::literal(alloc, b"a/x")?,
+        origin: Origin {
+            category: Text::literal(alloc, b"a")?,
+            port: Text::literal(alloc, b"x")?,
+        },
+        flavor: None,
+        is_default: true,
+        desc: Desc {
+            name: Text::literal(alloc, b"x-1")?,
+            steps: Steps {
+                extract: Sequence::new(alloc),
+                patch: Sequence::new(alloc),
+                configure: Sequence::new(alloc),
+                build: Sequence::new(alloc),
+                stage: Sequence::new(alloc),
+            },
+            entries: Sequence::new(alloc),
+            ignore: None,
+            forbidden: None,
+            broken: None,
+        },
+        options: Sequence::new(alloc),
+        ignored: None,
+        targets: Sequence::new(alloc),
+    })
 }
 
-/// What a tree gives that has nine ports of 1,820 flavors, and some more without flavors.
-fn answer_of_many(alloc: Global, more: u8) -> Result<Vec<u8>, Fail> {
-    let mut case = Vec::from_slice(alloc, b"*:$a")?;
-    let mut list = Vec::from_slice(alloc, b";a:$")?;
-    for name in b'a'..b'j' {
-        push_port(&mut case, &mut list, name, 1820)?;
+/// What so many nodes are refused for, as a case's answer; empty where they are not.
+fn refusal_of_many(alloc: Global, count: usize) -> Result<String, Fail> {
+    let mut nodes = Vec::new(alloc);
+    for _ in 0..count {
+        nodes.push(small_node(alloc)?)?;
     }
-    for name in b'p'..b'p' + more.min(9) {
-        push_port(&mut case, &mut list, name, 0)?;
+    match refuse_many(nodes.as_slice()) {
+        Ok(()) => Ok(String::new(alloc)),
+        Err(error) => refusal_of(alloc, &error),
     }
-    case.extend_from_slice(list.as_slice())?;
-    let mut tree = tree(alloc, case.as_slice(), Sequence::new(alloc))?;
-    answer(alloc, &mut tree)
 }
 
 #[test]
 fn many_nodes(rt: HostRuntime) -> Result<(), Fail> {
     let alloc = rt.alloc();
-    let twins = b"!twins a/a@baa a/a@bab q-1".as_slice();
-    assert!(rt; answer_of_many(alloc, 4)?.as_slice() == twins);
-    assert!(rt; answer_of_many(alloc, 5)?.as_slice() == b"!nodes 16385".as_slice());
+    assert!(rt; refusal_of_many(alloc, 16_384)?.as_str() == "");
+    assert!(rt; refusal_of_many(alloc, 16_385)?.as_str() == "!nodes 16385");
     Ok(())
 }
