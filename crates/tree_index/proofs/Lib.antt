@@ -20,3 +20,6 @@ pub mod NameLists
 pub mod Whole
 pub mod Gathering
 pub mod CategorySteps
+pub mod MovedBytes
+pub mod TreeSteps
+pub mod WordsInOrder
