@@ -1,7 +1,6 @@
 -- The variable files of a ports tree (docs/FORMATS.md, "The tree folder").
 use Rattle.std.specs.Prelude.{ℕ, Bool, not, List, find, codes}
 use Rattle.std.specs.Option.{option_map_or}
-use Rattle.std.specs.declared.option.Option.{Option}
 use Rattle.std.specs.declared.option.Option.TheVariants.{None, Some}
 use Rattle.std.specs.declared.result.Result.{Result}
 use Rattle.std.specs.declared.result.Result.TheVariants.{Ok, Err}
