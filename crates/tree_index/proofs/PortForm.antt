@@ -1,6 +1,6 @@
 -- The nodes of one port are in form.
 use Rattle.std.proofs.Common.{◌≡◌, ℕ, ◌+◌, Bool, true, false, List, [], ◌∷◌, ◌++◌, length, ap, subst, sym, ◌∙◌, refl, arith, Ok, Err, Option, Some, None, Result}
-use Rattle.std.specs.Prelude.{map, filter, cond, nat_le, bytes_eq, IsTrue, IfSome, codes}
+use Rattle.std.specs.Prelude.{map, filter, cond, nat_le, bytes_eq, IfSome, codes}
 use Rattle.std.specs.List.{AllByRecursion, IsDistinct}
 use Rattle.std.specs.FinMap as finite
 use Rattle.std.proofs.lemmas.Bool.Decides.{nat_tests}
@@ -28,7 +28,7 @@ use Rattle.port_desc.proofs.Named.{name_missing, name_known}
 use Rattle.port_desc.proofs.Described.{desc_with-name, desc_with-entries}
 use Rattle.port_desc.proofs.EntryLaws.{entries_sound}
 use Rattle.port_desc.proofs.FlavorLaws.{flavors_sound}
-use Rattle.port_desc.proofs.Lists.{all_mapped, all_of, all_weaker, distinct_mapped}
+use Rattle.port_desc.proofs.Lists.{all_mapped, distinct_mapped}
 use Rattle.port_desc.proofs.Refused.{same_ok, no_err}
 use Rattle.tree_index.specs.declared.node.NodeInfo.{NodeInfo}
 use Rattle.tree_index.specs.Facts.{IsPlace, IsNodeInfo, ArePortNodes}

@@ -1,7 +1,7 @@
 -- The options of a port are in form.
-use Rattle.std.proofs.Common.{◌≡◌, ℕ, Bool, true, false, List, [], ◌∷◌, ◌++◌, ap, subst, sym, ◌∙◌, refl, arith, Ok, Err, Option, Some, None}
+use Rattle.std.proofs.Common.{◌≡◌, ℕ, Bool, true, false, List, [], ◌∷◌, ◌++◌, ap, subst, sym, ◌∙◌, refl, arith, Ok, Option, Some, None}
 use Rattle.std.specs.Prelude.{map, not, ◌&&◌, cond, codes}
-use Rattle.std.specs.Option.{option_map, option_or}
+use Rattle.std.specs.Option.{option_or}
 use Rattle.std.specs.List.{list_all}
 use Rattle.std.proofs.lemmas.Bool.{and_parts}
 use Rattle.std.proofs.lemmas.List.Folds.{list_all-append}
@@ -12,9 +12,8 @@ use Rattle.outside.specs.Contents.{IsAscending}
 use Rattle.port_vars.specs.Variables.{Vars}
 use Rattle.port_desc.proofs.Refused.{same_ok, no_err}
 use Rattle.option_set.specs.declared.fault.OptionError.{OptionError}
-use Rattle.option_set.specs.declared.fault.OptionError.TheVariants.{Undefined}
 use Rattle.option_set.specs.declared.layers.Layers.{Layers}
-use Rattle.option_set.specs.Named.{is_option_name, in_order}
+use Rattle.option_set.specs.Named.{is_option_name}
 use Rattle.option_set.specs.Defined.{defining, defining_words, option_words, options_of, words_in, groups_in, words_of_groups, members_of}
 use Rattle.option_set.specs.Implied.{on_in}
 use Rattle.option_set.specs.Refused.{words_refused, state_refused, no_name, too_many, undefined, not_defined, naming_words}

@@ -1,9 +1,8 @@
-use Rattle.std.proofs.Common.{◌≡◌, ◌∙◌, ap, sym, Ok, Err}
+use Rattle.std.proofs.Common.{◌≡◌, ◌∙◌, ap, sym, Ok}
 use Rattle.std.proofs.lemmas.Result.{err_from_is_err_and, IfOk-weaker, IfErr-weaker}
 use Rattle.outside.specs.Contents.{Contents}
 use Rattle.tree_index.specs.Places.{port_file, options_file}
 use Rattle.tree_index.specs.VarFiles.{vars_at, vars_if_there}
-use Rattle.tree_index.specs.PortNodes.{nodes_by, port_nodes}
 use Rattle.tree_index.proofs.PortSteps.{options_file_refused, port_file_refused, both_read}
 use Rattle.tree_index.proofs.port_reading.read_port.Goals as goal
 

@@ -1,12 +1,10 @@
-use Rattle.std.proofs.Common.{◌≡◌, ◌∙◌, ap, sym, Vec, Global, ℕ, List, arith, Ok, Err}
-use Rattle.std.specs.Prelude.{Some}
+use Rattle.std.proofs.Common.{◌∙◌, ap, sym, Vec, Global, ℕ, arith, Err}
 use Rattle.std.specs.Option.{option_map}
 use Rattle.std.specs.FinMap.{get}
 use Rattle.std.proofs.lemmas.Result.{IfOk-weaker, IfErr-weaker}
-use Rattle.tree_index.specs.declared.fault.IndexError.{IndexError}
-use Rattle.tree_index.specs.declared.fault.IndexError.TheVariants.{BadPort, TreeFault, NoMemory}
+use Rattle.tree_index.specs.declared.fault.IndexError.TheVariants.{BadPort}
 use Rattle.tree_index.specs.declared.fault.PortKind.TheVariants.{Absent}
-use Rattle.tree_index.specs.VarFiles.{vars_in, vars_at}
+use Rattle.tree_index.specs.VarFiles.{vars_in}
 use Rattle.tree_index.proofs.EnoughBytes.{found_file}
 use Rattle.tree_index.proofs.var_file.read_vars_at.Goals as goal
 

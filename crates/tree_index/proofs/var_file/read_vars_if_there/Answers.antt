@@ -1,9 +1,8 @@
-use Rattle.std.proofs.Common.{◌≡◌, ◌∙◌, ap, sym, Vec, Global, ℕ, List, arith, Ok, Err}
-use Rattle.std.specs.Prelude.{Some, None}
+use Rattle.std.proofs.Common.{◌∙◌, ap, sym, Vec, Global, ℕ, arith, Ok}
 use Rattle.std.specs.Option.{option_map}
 use Rattle.std.specs.FinMap.{get, empty}
 use Rattle.std.proofs.lemmas.Result.{IfOk-weaker, IfErr-weaker}
-use Rattle.tree_index.specs.VarFiles.{vars_in, vars_if_there}
+use Rattle.tree_index.specs.VarFiles.{vars_in}
 use Rattle.tree_index.proofs.EnoughBytes.{found_file, no_file, no_bytes}
 use Rattle.tree_index.proofs.var_file.read_vars_if_there.Goals as goal
 
