@@ -1,0 +1,15 @@
+//! Which nodes of a ports tree a command wants: words of a list file and of the command, with flavors, followed by MOVED.
+#![tactic(auto)]
+
+mod answer;
+mod fault;
+mod list_file;
+mod nodes;
+mod notices;
+mod selection;
+#[cfg(test)]
+mod tests;
+mod word;
+
+pub use fault::WantedError;
+pub use selection::{Wanted, wanted};

@@ -1,0 +1,113 @@
+// The numbers of the nodes that words mean.
+ghost use Rattle.std.specs.Prelude.{◌≡◌, ◌||◌, ◌<◌, ◌^◌, ℕ, List, length, map, filter, IfOk};
+ghost use Rattle.std.specs.List.{list_any, AllByRecursion};
+ghost use Rattle.port_name.specs.Sets.{is_among};
+ghost use Rattle.tree_index.specs.Places.{origin_name};
+ghost use Rattle.origin_flavor.specs.Nodes as nodes;
+ghost use Rattle.origin_flavor.specs.Nodes.{is_wanted, wanted_numbers};
+
+use crate::answer::Answer;
+use crate::word::{asks_all, name_in};
+use bulk_base::{NoMemory, Sequence, Text, Texts};
+use bulk_model::Numbers;
+use moved_list::Follow;
+use port_name::{Names, Origin};
+use std::alloc::Global;
+use tree_index::NodeInfo;
+
+/// The names that words mean.
+struct Meant {
+    /// Those of all words.
+    names: Names,
+    /// Those of the words that ask for all flavors.
+    with_flavors: Names,
+}
+
+/// The name that is there, by where MOVED leads a word that is served.
+fn end_of(alloc: Global, answer: &Answer) -> Result<Text, NoMemory>
+    ensures { IfOk result (λ name. name ≡ nodes.end_of answer.now) }
+{
+    match &answer.to {
+        Follow::At(name) => name.copy(alloc),
+        _ => name_in(alloc, &answer.word),
+    }
+}
+
+/// The names that words mean.
+fn ends(alloc: Global, answers: &[Answer]) -> Result<Texts, NoMemory>
+    ensures { IfOk result (λ found. found ≡ map nodes.end_of answers.now) }
+{
+    let mut found = Sequence::new(alloc);
+    for answer in answers {
+        found.push(end_of(alloc, answer)?)?;
+    }
+    Ok(found)
+}
+
+/// The names that the words mean that ask for all flavors.
+fn ends_with_flavors(
+    alloc: Global,
+    every_flavor: bool,
+    answers: &[Answer],
+) -> Result<Texts, NoMemory>
+    ensures { IfOk result (λ found. found ≡ map nodes.end_of (filter (nodes.asks_every every_flavor) answers.now)) }
+{
+    let mut found = Sequence::new(alloc);
+    for answer in answers {
+        if every_flavor || asks_all(&answer.word) {
+            found.push(end_of(alloc, answer)?)?;
+        }
+    }
+    Ok(found)
+}
+
+fn meant(alloc: Global, every_flavor: bool, answers: &[Answer]) -> Result<Meant, NoMemory>
+    ensures names { IfOk result (λ meant. (name : List ℕ) → is_among meant.names name ≡ is_among (map nodes.end_of answers.now) name) }
+    ensures flavors { IfOk result (λ meant. (name : List ℕ) → is_among meant.with_flavors name ≡ is_among (map nodes.end_of (filter (nodes.asks_every every_flavor) answers.now)) name) }
+{
+    Ok(Meant {
+        names: Names::new(alloc, ends(alloc, answers)?)?,
+        with_flavors: Names::new(alloc, ends_with_flavors(alloc, every_flavor, answers)?)?,
+    })
+}
+
+/// The text of an origin.
+fn origin_text(alloc: Global, origin: &Origin) -> Result<Text, NoMemory>
+    ensures { IfOk result (λ text. text ≡ origin_name origin.now) }
+{
+    let text = format!(in alloc; "{}/{}", origin.category, origin.port)?;
+    Text::of(alloc, text.as_str().as_bytes())
+}
+
+/// Whether a word means a node.
+fn is_meant(alloc: Global, meant: &Meant, node: &NodeInfo) -> Result<bool, NoMemory>
+    ensures { IfOk result (λ found. found ≡ (is_among meant.now.names node.now.node
+        || ((node.now.is_default && is_among meant.now.names (origin_name node.now.origin)) || is_among meant.now.with_flavors (origin_name node.now.origin)))) }
+{
+    if meant.names.holds(&node.node) {
+        return Ok(true);
+    }
+    let origin = origin_text(alloc, &node.origin)?;
+    Ok((node.is_default && meant.names.holds(&origin)) || meant.with_flavors.holds(&origin))
+}
+
+/// The numbers of the nodes that are wanted. Each node costs two look-ups among the names that the words mean.
+pub(crate) fn wanted_numbers(
+    alloc: Global,
+    nodes: &[NodeInfo],
+    answers: &[Answer],
+    all: bool,
+    every_flavor: bool,
+) -> Result<Numbers, NoMemory>
+    requires { length nodes.now < 2 ^ 32 }
+    ensures { IfOk result (λ found. found ≡ wanted_numbers all every_flavor answers.now nodes.now) }
+{
+    let meant = meant(alloc, every_flavor, answers)?;
+    let mut found = Sequence::new(alloc);
+    for at in 0..nodes.len() {
+        if all || is_meant(alloc, &meant, &nodes[at])? {
+            found.push(at as u32)?;
+        }
+    }
+    Ok(found)
+}
