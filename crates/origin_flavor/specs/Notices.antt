@@ -1,6 +1,6 @@
 -- What is told of the words that moved (poudriere-bulk(8); docs/FORMATS.md, "Wanted ports").
-use Rattle.std.specs.Prelude.{ℕ, Bool, not, List, [], ◌∷◌, filter, bytes_eq}
-use Rattle.std.specs.List.{filter_map}
+use Rattle.std.specs.Prelude.{ℕ, Bool, not, List, [], ◌∷◌, ◌++◌, filter, bytes_eq, if◌then◌else◌}
+use Rattle.std.specs.List.{filter_map, list_any}
 use Rattle.std.specs.declared.option.Option.{Option}
 use Rattle.std.specs.declared.option.Option.TheVariants.{None, Some}
 use Rattle.bulk_model.specs.declared.reason.Notice.{Notice}
@@ -23,6 +23,10 @@ has_other_word a b = not (bytes_eq a.word b.word)
 abbrev pub each_word_once : List Notice → List Notice
 each_word_once [] = []
 each_word_once (notice ∷ more) = notice ∷ filter (has_other_word notice) (each_word_once more)
+
+-- notices with one more, unless its word has one
+abbrev pub with_notice : List Notice → Notice → List Notice
+with_notice notices notice = if list_any (λ other. bytes_eq notice.word other.word) notices then notices else notices ++ notice ∷ []
 
 -- the notices of words, in their order
 unfoldable pub notices_of : List Answer → List Notice

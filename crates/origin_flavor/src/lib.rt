@@ -9,6 +9,7 @@ mod notices;
 mod selection;
 #[cfg(test)]
 mod tests;
+mod told;
 mod word;
 
 pub use fault::WantedError;

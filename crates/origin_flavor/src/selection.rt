@@ -52,7 +52,7 @@ pub fn wanted(
     ensures order { IfOk result (λ found. IsStrictlySortedBy nat_cmp found.nodes) }
 {
     let asked = wanted_words(alloc, list, words)?;
-    let answers = answers(alloc, index, asked)?;
+    let answers = answers(alloc, index, asked.as_slice())?;
     Ok(Wanted {
         nodes: wanted_numbers(alloc, index.nodes.as_slice(), answers.as_slice(), all, every_flavor)?,
         notices: notices(alloc, answers.as_slice())?,

@@ -1,0 +1,6 @@
+pub mod Pieces
+pub mod Listed
+pub mod Answered
+pub mod Meant
+pub mod Numbered
+pub mod Noticed
