@@ -1,5 +1,5 @@
 -- What the loop over the names of a chain keeps.
-use Rattle.std.proofs.Common.{◌≡◌, ℕ, ◌+◌, ◌≤◌, Bool, true, false, List, [], ◌∷◌, ◌++◌, length, arith, ◌∙◌, ap, refl, sym, cond, subst}
+use Rattle.std.proofs.Common.{◌≡◌, ℕ, zero, suc, ◌+◌, ◌≤◌, Bool, true, false, List, [], ◌∷◌, ◌++◌, length, arith, ◌∙◌, ap, refl, sym, cond, subst}
 use Rattle.std.specs.Prelude.{Option, Some, None, reverse, find, bytes_eq, map, ◌||◌, ◌==◌}
 use Rattle.std.specs.List.{IsDistinct}
 use Rattle.std.specs.Cmp.Lexicographic.{nat_list_eq_equiv}
@@ -13,7 +13,8 @@ use Rattle.moved_list.specs.declared.chain.Follow.{Follow}
 use Rattle.moved_list.specs.declared.chain.Follow.TheVariants.{Here, At, Circle}
 use Rattle.moved_list.specs.declared.chain.Step.TheVariants.{End, Next}
 use Rattle.moved_list.specs.Moved.{last_line}
-use Rattle.moved_list.specs.Walk.{from_first, by_line, step, Goes, Leads}
+use Rattle.moved_list.specs.declared.chain.Step.{Step}
+use Rattle.moved_list.specs.Walk.{from_first, by_line, step, ended, led, leads_to, Goes, Leads}
 
 -- one answer alone
 pub one_answer : (names : List (List ℕ)) (moved : List MovedLine) (chain : List (List ℕ)) (name : List ℕ) (a b : List (List ℕ)) (x y : Follow)
@@ -127,3 +128,40 @@ walk_short names moved start steps chain name so_far =
 
 pub only_answer : (names : List (List ℕ)) (moved : List MovedLine) (name : List ℕ) (found answer : Follow) → Leads names moved name found → Leads names moved name answer → answer ≡ found
 only_answer names moved name found answer p q = one_answer names moved [] name q.by p.by answer found q.goes p.goes
+
+-- as many steps as are left lead to the whole's answer
+led_on : (names : List (List ℕ)) (moved : List MovedLine) (start : List ℕ) (left steps : ℕ) (chain : List (List ℕ)) (name : List ℕ) → steps + left ≡ length moved + 1
+    → WalkedSoFar names moved start steps chain name → Leads names moved start (led left names moved chain name)
+led_on names moved start zero steps chain name e so_far = absurd (omega (arith, e, walk_short names moved start steps chain name so_far))
+led_on names moved start (suc left) steps chain name e so_far =
+    by_step (step names moved chain name) refl (λ next h. led_on names moved start left (steps + 1) (chain ++ name ∷ []) next (omega (arith, e)) (longer_walk names moved start steps chain name next h so_far)) where
+      by_step : (s : Step) → step names moved chain name ≡ s
+          → ((next : List ℕ) → step names moved chain name ≡ Next next → Leads names moved start (led left names moved (chain ++ name ∷ []) next))
+          → Leads names moved start (ended (led left names moved (chain ++ name ∷ [])) s)
+      by_step (End answer) h on = walk_end names moved start steps chain name answer h so_far
+      by_step (Next next) h on = on next h
+
+-- a name leads to its answer
+pub leads : (names : List (List ℕ)) (moved : List MovedLine) (name : List ℕ) → Leads names moved name (leads_to names moved name)
+unfolding leads_to
+leads names moved name = led_on names moved name (length moved + 1) 0 [] name (omega arith) (walk_begin names moved name name [] refl refl)
+
+pub the_answer : (names : List (List ℕ)) (moved : List MovedLine) (name : List ℕ) (found : Follow) → Leads names moved name found → found ≡ leads_to names moved name
+the_answer names moved name found h = sym (only_answer names moved name found (leads_to names moved name) h (leads names moved name))
+
+-- steps, and so answers, are the same over the same names, in whatever order they stand
+step_alike : (a b : List (List ℕ)) → ((name : List ℕ) → is_among a name ≡ is_among b name) → (moved : List MovedLine) (chain : List (List ℕ)) (name : List ℕ) → step a moved chain name ≡ step b moved chain name
+step_alike a b same moved chain name = ap (λ there. cond (is_among chain name) (End (Circle (from_first name chain))) (cond there (End (there_at chain name)) (by_line (last_line moved name)))) (same name)
+
+led_alike : (a b : List (List ℕ)) → ((name : List ℕ) → is_among a name ≡ is_among b name) → (moved : List MovedLine) (steps : ℕ) (chain : List (List ℕ)) (name : List ℕ) → led steps a moved chain name ≡ led steps b moved chain name
+led_alike a b same moved zero chain name = refl
+led_alike a b same moved (suc steps) chain name =
+    ap (ended (led steps a moved (chain ++ name ∷ []))) (step_alike a b same moved chain name) ∙ by_step (step b moved chain name) (led_alike a b same moved steps (chain ++ name ∷ [])) where
+      by_step : (s : Step) → ((next : List ℕ) → led steps a moved (chain ++ name ∷ []) next ≡ led steps b moved (chain ++ name ∷ []) next)
+          → ended (led steps a moved (chain ++ name ∷ [])) s ≡ ended (led steps b moved (chain ++ name ∷ [])) s
+      by_step (End answer) on = refl
+      by_step (Next next) on = on next
+
+pub leads_alike : (a b : List (List ℕ)) → ((name : List ℕ) → is_among a name ≡ is_among b name) → (moved : List MovedLine) (name : List ℕ) → leads_to a moved name ≡ leads_to b moved name
+unfolding leads_to
+leads_alike a b same moved name = led_alike a b same moved (length moved + 1) [] name

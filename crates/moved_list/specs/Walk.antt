@@ -1,5 +1,5 @@
 -- Where a name leads by MOVED (Porter's Handbook, "MOVED"; docs/FORMATS.md).
-use Rattle.std.specs.Prelude.{◌≡◌, ℕ, List, [], ◌∷◌, ◌++◌, length, drop, bytes_eq, ◌==◌, Option, Some, None, if◌then◌else◌}
+use Rattle.std.specs.Prelude.{◌≡◌, ℕ, zero, suc, ◌+◌, List, [], ◌∷◌, ◌++◌, length, drop, bytes_eq, ◌==◌, Option, Some, None, if◌then◌else◌}
 use Rattle.std.specs.List.{position_or_len}
 use Rattle.port_name.specs.Sets.{is_among}
 use Rattle.moved_list.specs.declared.line.MovedLine.{MovedLine}
@@ -27,6 +27,20 @@ step names moved chain name =
     if is_among chain name then End (Circle (from_first name chain))
     else (if is_among names name then End (if length chain == 0 then Here else At name)
     else by_line (last_line moved name))
+
+-- what a step comes to: its answer, or where the next name leads
+abbrev pub ended : (List ℕ → Follow) → Step → Follow
+ended on (End answer) = answer
+ended on (Next next) = on next
+
+-- where a name leads, behind a chain of names, in so many steps at most
+abbrev pub led : ℕ → List (List ℕ) → List MovedLine → List (List ℕ) → List ℕ → Follow
+led zero names moved chain name = Absent
+led (suc steps) names moved chain name = ended (led steps names moved (chain ++ name ∷ [])) (step names moved chain name)
+
+-- where a name leads: a chain ends after one step more than MOVED has lines, since each of its names has a line of its own
+unfoldable pub leads_to : List (List ℕ) → List MovedLine → List ℕ → Follow
+leads_to names moved name = led (length moved + 1) names moved [] name
 
 -- from a name, behind a chain of names, the next names are these, and at their end stands the answer
 abbrev pub Goes : List (List ℕ) → List MovedLine → List (List ℕ) → List ℕ → List (List ℕ) → Follow → Type 0

@@ -1,7 +1,7 @@
 // Where a name leads by MOVED.
 ghost use Rattle.std.specs.Prelude.{◌≡◌, IfOk};
 ghost use Rattle.moved_list.specs.Walk as walk_of;
-ghost use Rattle.moved_list.specs.Walk.{by_line, Leads};
+ghost use Rattle.moved_list.specs.Walk.{by_line, leads_to, Leads};
 ghost use Rattle.moved_list.specs.Moved.{last_line};
 
 use crate::chain::{Chain, Follow, Step};
@@ -53,8 +53,8 @@ fn step(
 ///
 /// NoMemory for want of memory alone. The chain's length times O(log n) comparisons.
 pub fn follow(alloc: Global, moved: &Moved, name: &Text, names: &Names) -> Result<Follow, NoMemory>
+    ensures answer { IfOk result (λ found. found ≡ leads_to names.now moved.now name.now) }
     ensures leads { IfOk result (Leads names.now moved.now name.now) }
-    ensures only { IfOk result (λ found. (answer : Follow) → Leads names.now moved.now name.now answer → answer ≡ found) }
 {
     let mut chain = Chain::new(alloc);
     let mut current = name.copy(alloc)?;

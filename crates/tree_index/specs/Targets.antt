@@ -6,7 +6,7 @@ use Rattle.std.specs.declared.option.Option.TheVariants.{None, Some}
 use Rattle.moved_list.specs.declared.line.MovedLine.{MovedLine}
 use Rattle.moved_list.specs.declared.chain.Follow.{Follow}
 use Rattle.moved_list.specs.declared.chain.Follow.TheVariants as follow
-use Rattle.moved_list.specs.Walk.{Leads}
+use Rattle.moved_list.specs.Walk.{leads_to}
 use Rattle.port_desc.specs.declared.entry.Entry.{Entry}
 use Rattle.tree_index.specs.declared.node.NodeInfo.{NodeInfo}
 use Rattle.tree_index.specs.declared.node.At.{At}
@@ -31,26 +31,20 @@ abbrev pub moved_to : List ℕ → Follow → At
 moved_to name (follow.At new) = Moved name new
 moved_to name answer = Nowhere name
 
--- where MOVED leads a name that is no node's, among names that are there
-pub record IsMovedTo (names : List (List ℕ)) (moved : List MovedLine) (name : List ℕ) (at : At) : Type 0 where
-  pub answer : Follow
-  pub leads : Leads names moved name answer
-  pub same : at ≡ moved_to name answer
-
--- a name leads to a place: to the node that it means, else where MOVED leads it
-abbrev pub LeadsTo : List NodeInfo → List (List ℕ) → List MovedLine → List ℕ → At → Type 0
-LeadsTo nodes names moved name at = elim (number_in nodes name) [
-  | Some n ↦ at ≡ Node n
-  | None ↦ IsMovedTo names moved name at
+-- where a name leads: to the node that it means, else where MOVED leads it
+abbrev pub place_of : List NodeInfo → List MovedLine → List ℕ → At
+place_of nodes moved name = elim (number_in nodes name) [
+  | Some n ↦ Node n
+  | None ↦ moved_to name (leads_to (names_of nodes) moved name)
 ]
 
--- targets are those of entries, one by one
-abbrev pub AreTargets : List NodeInfo → List (List ℕ) → List MovedLine → List Entry → List Target → Type 0
-AreTargets nodes names moved [] [] = Unit {0}
-AreTargets nodes names moved (entry ∷ entries) (target ∷ targets) =
-    ((target.kind ≡ entry.kind) × LeadsTo nodes names moved entry.target target.at) × AreTargets nodes names moved entries targets
-AreTargets nodes names moved [] (target ∷ targets) = ⊥
-AreTargets nodes names moved (entry ∷ entries) [] = ⊥
+-- the target of an entry
+abbrev pub target_of : List NodeInfo → List MovedLine → Entry → Target
+target_of nodes moved entry = record { kind = entry.kind; at = place_of nodes moved entry.target }
+
+-- a node's targets, one for each of its entries
+abbrev pub targets_of : List NodeInfo → List MovedLine → NodeInfo → List Target
+targets_of nodes moved node = map (target_of nodes moved) node.desc.entries
 
 -- a node with targets
 abbrev pub with_targets : NodeInfo → List Target → NodeInfo
@@ -65,10 +59,6 @@ with_targets node targets = record {
   targets = targets;
 }
 
--- nodes are those of a list, each with the targets of its entries, among all nodes and their names
-abbrev pub AreAimed : List NodeInfo → List (List ℕ) → List MovedLine → List NodeInfo → List NodeInfo → Type 0
-AreAimed all names moved [] [] = Unit {0}
-AreAimed all names moved (node ∷ nodes) (aimed ∷ more) =
-    ((aimed ≡ with_targets node aimed.targets) × AreTargets all names moved node.desc.entries aimed.targets) × AreAimed all names moved nodes more
-AreAimed all names moved [] (aimed ∷ more) = ⊥
-AreAimed all names moved (node ∷ nodes) [] = ⊥
+-- all nodes with their targets
+abbrev pub aimed : List NodeInfo → List MovedLine → List NodeInfo
+aimed nodes moved = map (λ node. with_targets node (targets_of nodes moved node)) nodes

@@ -1,5 +1,5 @@
 use Rattle.std.proofs.Common.{◌∙◌, ap, sym, length, arith}
-use Rattle.moved_list.proofs.Walked.{walk_begin, walk_next, walk_end, walk_short, only_answer}
+use Rattle.moved_list.proofs.Walked.{walk_begin, walk_next, walk_end, walk_short, the_answer}
 use Rattle.moved_list.proofs.walk.follow.Goals as goal
 
 pub loop-init : goal.loop-init
@@ -9,11 +9,9 @@ pub returns-in-End-clause-leads : goal.returns-in-End-clause-leads
 returns-in-End-clause-leads c =
     walk_end c.args.names.now c.args.moved.now c.args.name.now c.loop.counter c.loop.chain c.loop.current c.in-End.answer (sym c.in_ok-answer.ensures ∙ c.in-End.is) c.loop.invariant
 
-pub returns-in-End-clause-only : goal.returns-in-End-clause-only
-returns-in-End-clause-only c = λ answer leads.
-    only_answer c.args.names.now c.args.moved.now c.args.name.now c.in-End.answer answer
+pub returns-in-End-clause-answer : goal.returns-in-End-clause-answer
+returns-in-End-clause-answer c = the_answer c.args.names.now c.args.moved.now c.args.name.now c.in-End.answer
     (walk_end c.args.names.now c.args.moved.now c.args.name.now c.loop.counter c.loop.chain c.loop.current c.in-End.answer (sym c.in_ok-answer.ensures ∙ c.in-End.is) c.loop.invariant)
-    leads
 
 pub loop-preserved : goal.loop-preserved
 loop-preserved c =
