@@ -1,36 +1,51 @@
 -- What the loop over words keeps.
-use Rattle.std.proofs.Common.{◌≡◌, ℕ, ◌+◌, ◌<◌, ◌≤◌, List, [], ◌∷◌, ◌++◌, length, get_or, take, drop, ◌∙◌, ap, sym, subst}
-use Rattle.std.specs.Prelude.{map}
-use Rattle.std.specs.List.{AllByRecursion}
-use Rattle.std.proofs.lemmas.List.{map-append, take_all, take-append-drop}
+use Rattle.std.proofs.Common.{◌≡◌, ℕ, ◌+◌, ◌<◌, ◌≤◌, List, [], ◌∷◌, ◌++◌, length, get_or, drop, ◌∙◌, ap, sym, refl}
+use Rattle.std.specs.declared.result.Result.{Result}
+use Rattle.std.specs.declared.result.Result.TheVariants.{Ok, Err}
+use Rattle.std.proofs.lemmas.List.{append_assoc, append-nil, drop_all}
+use Rattle.port_vars.specs.Assignment.{mapped, ◌>>=◌}
+use Rattle.port_desc.proofs.Turns.{left_more}
 use Rattle.tree_index.specs.Index.{IndexView}
-use Rattle.port_desc.proofs.Turns.{taken_more, left_more}
-use Rattle.port_desc.proofs.Lists.{all_append}
 use Rattle.origin_flavor.specs.declared.fault.WantedError.{WantedError}
 use Rattle.origin_flavor.specs.declared.answer.Answer.{Answer}
-use Rattle.origin_flavor.specs.Served.{words_of, IsServed, AreServed, IsRefused, IsFirstRefused}
+use Rattle.origin_flavor.specs.Answers.{answer_of, answers_of}
 
-pub answered_begin : (index : IndexView) (words : List (List ℕ)) (found : List Answer) → found ≡ [] → AreServed index (take 0 words) found
-answered_begin index words found e = subst (AreServed index []) (sym e) (record { words = Rattle.std.proofs.Common.refl; served = tt })
+-- the answers found, and those of the words that are left, are all
+abbrev pub AnsweredSoFar : IndexView → List (List ℕ) → ℕ → List Answer → Type 0
+AnsweredSoFar index words at found = answers_of index words ≡ mapped (λ rest. found ++ rest) (answers_of index (drop at words))
+
+nothing_found : (answers : Result (List Answer) WantedError) → answers ≡ mapped (λ rest. [] ++ rest) answers
+nothing_found (Ok answers) = refl
+nothing_found (Err error) = refl
+
+pub answered_begin : (index : IndexView) (words : List (List ℕ)) (found : List Answer) → found ≡ [] → AnsweredSoFar index words 0 found
+answered_begin index words found e = nothing_found (answers_of index words) ∙ ap (λ f. mapped (λ rest. f ++ rest) (answers_of index words)) (sym e)
+
+abbrev with_answer : Result Answer WantedError → Result (List Answer) WantedError → Result (List Answer) WantedError
+with_answer answer rest = answer >>= λ a. rest >>= λ as. Ok (a ∷ as)
+
+pushed : (found : List Answer) (answer : Answer) (rest : Result (List Answer) WantedError)
+    → mapped (λ as. found ++ as) (with_answer (Ok answer) rest) ≡ mapped (λ as. (found ++ answer ∷ []) ++ as) rest
+pushed found answer (Ok as) = ap Ok (sym (append_assoc found (answer ∷ []) as))
+pushed found answer (Err error) = refl
+
+left : (index : IndexView) (words : List (List ℕ)) (at : ℕ) (word : List ℕ) (found : List Answer) → at < length words → word ≡ get_or words at word → AnsweredSoFar index words at found
+    → answers_of index words ≡ mapped (λ rest. found ++ rest) (with_answer (answer_of index word) (answers_of index (drop (at + 1) words)))
+left index words at word found l e so_far = so_far ∙ ap (λ ws. mapped (λ rest. found ++ rest) (answers_of index ws)) (left_more words at word l e)
 
 pub answered_more : (index : IndexView) (words : List (List ℕ)) (at : ℕ) (word : List ℕ) (found more : List Answer) (answer : Answer) → at < length words → word ≡ get_or words at word
-    → answer.word ≡ word → IsServed index answer → more ≡ found ++ answer ∷ [] → AreServed index (take at words) found → AreServed index (take (at + 1) words) more
-answered_more index words at word found more answer l e w s m so_far = record {
-  words = ap words_of m ∙ map-append (λ a. a.word) found (answer ∷ []) ∙ ap (λ ws. ws ++ answer.word ∷ []) so_far.words
-    ∙ ap (λ x. take at words ++ x ∷ []) w ∙ sym (taken_more words at word l e);
-  served = subst (AllByRecursion (IsServed index)) (sym m) (all_append (IsServed index) found (answer ∷ []) so_far.served (s, tt));
-}
+    → answer_of index word ≡ Ok answer → more ≡ found ++ answer ∷ [] → AnsweredSoFar index words at found → AnsweredSoFar index words (at + 1) more
+answered_more index words at word found more answer l e a m so_far =
+    left index words at word found l e so_far
+    ∙ ap (λ r. mapped (λ rest. found ++ rest) (with_answer r (answers_of index (drop (at + 1) words)))) a
+    ∙ pushed found answer (answers_of index (drop (at + 1) words))
+    ∙ ap (λ f. mapped (λ rest. f ++ rest) (answers_of index (drop (at + 1) words))) (sym m)
 
 pub refused_here : (index : IndexView) (words : List (List ℕ)) (at : ℕ) (word : List ℕ) (found : List Answer) (error : WantedError) → at < length words → word ≡ get_or words at word
-    → IsRefused index word error → AreServed index (take at words) found → IsFirstRefused index words error
-refused_here index words at word found error l e r so_far = record {
-  before = found;
-  word = word;
-  after = drop (at + 1) words;
-  split = sym (take-append-drop at words) ∙ ap (λ rest. take at words ++ rest) (left_more words at word l e) ∙ ap (λ ws. ws ++ word ∷ drop (at + 1) words) (sym so_far.words);
-  served = so_far.served;
-  refused = r;
-}
+    → answer_of index word ≡ Err error → AnsweredSoFar index words at found → answers_of index words ≡ Err error
+refused_here index words at word found error l e a so_far =
+    left index words at word found l e so_far ∙ ap (λ r. mapped (λ rest. found ++ rest) (with_answer r (answers_of index (drop (at + 1) words)))) a
 
-pub answered_all : (index : IndexView) (words : List (List ℕ)) (at : ℕ) (found : List Answer) → length words ≤ at → AreServed index (take at words) found → AreServed index words found
-answered_all index words at found l so_far = subst (λ ws. AreServed index ws found) (take_all at words l) so_far
+pub answered_all : (index : IndexView) (words : List (List ℕ)) (at : ℕ) (found : List Answer) → length words ≤ at → AnsweredSoFar index words at found → answers_of index words ≡ Ok found
+answered_all index words at found l so_far =
+    so_far ∙ ap (λ ws. mapped (λ rest. found ++ rest) (answers_of index ws)) (drop_all at words l) ∙ ap Ok (append-nil found)

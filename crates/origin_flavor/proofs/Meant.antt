@@ -11,11 +11,11 @@ use Rattle.tree_index.specs.declared.node.NodeInfo.{NodeInfo}
 use Rattle.tree_index.specs.Places.{origin_name}
 use Rattle.tree_index.specs.Targets.{is_meant}
 use Rattle.origin_flavor.specs.declared.answer.Answer.{Answer}
-use Rattle.origin_flavor.specs.Nodes.{end_of, asks_every, means}
+use Rattle.origin_flavor.specs.Nodes.{asks_every, means}
 
 -- the names that words mean, and those of the words that ask for all flavors
 abbrev pub ends : List Answer → List (List ℕ)
-ends answers = map end_of answers
+ends answers = map (λ answer. answer.name) answers
 
 abbrev pub ends_with_flavors : Bool → List Answer → List (List ℕ)
 ends_with_flavors every answers = ends (filter (asks_every every) answers)
@@ -31,12 +31,12 @@ among_if : (asks : Bool) (x : List ℕ) (xs : List (List ℕ)) (name : List ℕ)
 among_if true x xs name = refl
 among_if false x xs name = refl
 
-ends_if : (asks : Bool) (answer : Answer) (answers : List Answer) → ends (cond asks (answer ∷ answers) answers) ≡ cond asks (end_of answer ∷ ends answers) (ends answers)
+ends_if : (asks : Bool) (answer : Answer) (answers : List Answer) → ends (cond asks (answer ∷ answers) answers) ≡ cond asks (answer.name ∷ ends answers) (ends answers)
 ends_if true answer answers = refl
 ends_if false answer answers = refl
 
 abbrev means_it : Bool → NodeInfo → Answer → Bool
-means_it every node answer = means (asks_every every answer) (end_of answer) node
+means_it every node answer = means (asks_every every answer) (answer.name) node
 
 abbrev turned : List ℕ → List ℕ → Type 0
 turned a b = bytes_eq a b ≡ bytes_eq b a
@@ -49,7 +49,7 @@ found_just_where_meant every node [] = grind arith
 found_just_where_meant every node (answer ∷ answers) =
     let origin = origin_name node.origin in
     let asks = asks_every every answer in
-    let x = end_of answer in
+    let x = answer.name in
     let names = ends answers in
     let flavors = ends_with_flavors every answers in
     ap (λ f. (bytes_eq node.node x || is_among names node.node) || ((node.is_default && (bytes_eq origin x || is_among names origin)) || is_among f origin)) (ends_if asks answer (filter (asks_every every) answers))
@@ -71,20 +71,20 @@ found_in_sets names flavors every answers node n f =
 
 -- the loops that find the names
 pub ends_more : (answers : List Answer) (at : ℕ) (answer : Answer) (found more : List (List ℕ)) → at < length answers → answer ≡ get_or answers at answer
-    → more ≡ found ++ end_of answer ∷ [] → found ≡ ends (take at answers) → more ≡ ends (take (at + 1) answers)
+    → more ≡ found ++ answer.name ∷ [] → found ≡ ends (take at answers) → more ≡ ends (take (at + 1) answers)
 ends_more answers at answer found more l e m so_far =
-    m ∙ ap (λ f. f ++ end_of answer ∷ []) so_far ∙ sym (map-append end_of (take at answers) (answer ∷ [])) ∙ ap ends (sym (taken_more answers at answer l e))
+    m ∙ ap (λ f. f ++ answer.name ∷ []) so_far ∙ sym (map-append (λ (a : Answer). a.name) (take at answers) (answer ∷ [])) ∙ ap ends (sym (taken_more answers at answer l e))
 
 kept_case : (every asks : Bool) (before : List Answer) (answer : Answer) → asks_every every answer ≡ asks
-    → ends_with_flavors every (before ++ answer ∷ []) ≡ cond asks (ends_with_flavors every before ++ end_of answer ∷ []) (ends_with_flavors every before)
+    → ends_with_flavors every (before ++ answer ∷ []) ≡ cond asks (ends_with_flavors every before ++ answer.name ∷ []) (ends_with_flavors every before)
 kept_case every true before answer a =
     ap ends (filter-append (asks_every every) before (answer ∷ []) ∙ ap (λ b. filter (asks_every every) before ++ cond b (answer ∷ []) []) a)
-    ∙ map-append end_of (filter (asks_every every) before) (answer ∷ [])
+    ∙ map-append (λ (a : Answer). a.name) (filter (asks_every every) before) (answer ∷ [])
 kept_case every false before answer a =
     ap ends (filter-append (asks_every every) before (answer ∷ []) ∙ ap (λ b. filter (asks_every every) before ++ cond b (answer ∷ []) []) a ∙ append-nil (filter (asks_every every) before))
 
 pub flavors_more : (every asks : Bool) (answers : List Answer) (at : ℕ) (answer : Answer) (found more : List (List ℕ)) → at < length answers → answer ≡ get_or answers at answer → asks_every every answer ≡ asks
-    → more ≡ cond asks (found ++ end_of answer ∷ []) found → found ≡ ends_with_flavors every (take at answers) → more ≡ ends_with_flavors every (take (at + 1) answers)
+    → more ≡ cond asks (found ++ answer.name ∷ []) found → found ≡ ends_with_flavors every (take at answers) → more ≡ ends_with_flavors every (take (at + 1) answers)
 flavors_more every asks answers at answer found more l e a m so_far =
-    m ∙ ap (λ f. cond asks (f ++ end_of answer ∷ []) f) so_far ∙ sym (kept_case every asks (take at answers) answer a)
+    m ∙ ap (λ f. cond asks (f ++ answer.name ∷ []) f) so_far ∙ sym (kept_case every asks (take at answers) answer a)
     ∙ ap (ends_with_flavors every) (sym (taken_more answers at answer l e))

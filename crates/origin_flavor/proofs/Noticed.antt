@@ -1,10 +1,10 @@
 -- What the loop that tells of the words that moved keeps.
-use Rattle.std.proofs.Common.{◌≡◌, ℕ, ◌+◌, ◌<◌, ◌≤◌, Bool, true, false, List, [], ◌∷◌, ◌++◌, length, get_or, take, cond, arith, ◌∙◌, ap, sym, refl, Option, Some, None}
-use Rattle.std.specs.Prelude.{not, ◌||◌, filter, bytes_eq}
-use Rattle.std.specs.List.{list_any, filter_map}
+use Rattle.std.proofs.Common.{◌≡◌, ℕ, ◌+◌, ◌<◌, ◌≤◌, Bool, true, false, List, [], ◌∷◌, ◌++◌, length, get_or, take, cond, arith, ◌∙◌, ap, sym, refl}
+use Rattle.std.specs.Prelude.{not, ◌||◌, filter, map, bytes_eq}
+use Rattle.std.specs.List.{list_any}
 use Rattle.std.specs.Cmp.Lexicographic.{nat_list_eq_equiv}
-use Rattle.std.proofs.lemmas.List.{append-nil, take_all}
-use Rattle.std.proofs.lemmas.List.Elements.{filter-append, filter_map-append}
+use Rattle.std.proofs.lemmas.List.{append-nil, take_all, map-append}
+use Rattle.std.proofs.lemmas.List.Elements.{filter-append}
 use Rattle.std.proofs.lemmas.Slice.Eq.{bytes_eq-Decides}
 use Rattle.port_desc.proofs.Turns.{taken_more}
 use Rattle.bulk_model.specs.declared.reason.Notice.{Notice}
@@ -57,20 +57,21 @@ each_word_once-push (x ∷ notices) n =
     ∙ ap (λ b. pushed b (x ∷ filter (has_other_word x) kept) n) (there_case x n kept (has_word_of n x) refl)
 
 -- one more answer
-abbrev pub with_option : List Notice → Option Notice → List Notice
-with_option notices None = notices
-with_option notices (Some n) = with_notice notices n
+moved_case : (before : List Answer) (answer : Answer) (moved : Bool) → answer.moved ≡ moved
+    → each_word_once (told_by (before ++ answer ∷ [])) ≡ cond moved (with_notice (each_word_once (told_by before)) (notice_of answer)) (each_word_once (told_by before))
+moved_case before answer true m =
+    ap (λ a. each_word_once (map notice_of a)) (filter-append (λ a. a.moved) before (answer ∷ []) ∙ ap (λ b. filter (λ a. a.moved) before ++ cond b (answer ∷ []) []) m)
+    ∙ ap each_word_once (map-append notice_of (filter (λ a. a.moved) before) (answer ∷ []))
+    ∙ each_word_once-push (told_by before) (notice_of answer)
+moved_case before answer false m =
+    ap (λ a. each_word_once (map notice_of a)) (filter-append (λ a. a.moved) before (answer ∷ []) ∙ ap (λ b. filter (λ a. a.moved) before ++ cond b (answer ∷ []) []) m ∙ append-nil (filter (λ a. a.moved) before))
 
-option_case : (before : List Notice) (o : Option Notice) → each_word_once (before ++ filter_map (λ (x : Option Notice). x) (o ∷ [])) ≡ with_option (each_word_once before) o
-option_case before None = ap each_word_once (append-nil before)
-option_case before (Some n) = each_word_once-push before n
+pub noticed_more : (answers : List Answer) (at : ℕ) (answer : Answer) (told more : List Notice) (moved : Bool) → at < length answers → answer ≡ get_or answers at answer → answer.moved ≡ moved
+    → more ≡ cond moved (with_notice told (notice_of answer)) told → told ≡ each_word_once (told_by (take at answers)) → more ≡ each_word_once (told_by (take (at + 1) answers))
+noticed_more answers at answer told more moved l e b m so_far =
+    m ∙ ap (λ t. cond moved (with_notice t (notice_of answer)) t) so_far ∙ sym (moved_case (take at answers) answer moved b)
+    ∙ ap (λ a. each_word_once (told_by a)) (sym (taken_more answers at answer l e))
 
-pub noticed_more : (answers : List Answer) (at : ℕ) (answer : Answer) (told more : List Notice) → at < length answers → answer ≡ get_or answers at answer
-    → more ≡ with_option told (notice_of answer) → told ≡ each_word_once (filter_map notice_of (take at answers)) → more ≡ each_word_once (filter_map notice_of (take (at + 1) answers))
-noticed_more answers at answer told more l e m so_far =
-    m ∙ ap (λ t. with_option t (notice_of answer)) so_far ∙ sym (option_case (filter_map notice_of (take at answers)) (notice_of answer))
-    ∙ ap each_word_once (sym (filter_map-append notice_of (take at answers) (answer ∷ []))) ∙ ap (λ a. each_word_once (filter_map notice_of a)) (sym (taken_more answers at answer l e))
-
-pub noticed_all : (answers : List Answer) (at : ℕ) (told : List Notice) → length answers ≤ at → told ≡ each_word_once (filter_map notice_of (take at answers)) → told ≡ notices_of answers
+pub noticed_all : (answers : List Answer) (at : ℕ) (told : List Notice) → length answers ≤ at → told ≡ each_word_once (told_by (take at answers)) → told ≡ notices_of answers
 unfolding notices_of
-noticed_all answers at told l so_far = so_far ∙ ap (λ a. each_word_once (filter_map notice_of a)) (take_all at answers l)
+noticed_all answers at told l so_far = so_far ∙ ap (λ a. each_word_once (told_by a)) (take_all at answers l)

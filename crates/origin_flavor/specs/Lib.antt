@@ -1,6 +1,6 @@
 pub mod ListFile
 pub mod Words
-pub mod Served
+pub mod Answers
 pub mod Nodes
 pub mod Notices
 pub mod Command

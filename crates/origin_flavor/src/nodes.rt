@@ -7,10 +7,9 @@ ghost use Rattle.origin_flavor.specs.Nodes as nodes;
 ghost use Rattle.origin_flavor.specs.Nodes.{is_wanted, wanted_numbers};
 
 use crate::answer::Answer;
-use crate::word::{asks_all, name_in};
+use crate::word::asks_all;
 use bulk_base::{NoMemory, Sequence, Text, Texts};
 use bulk_model::Numbers;
-use moved_list::Follow;
 use port_name::{Names, Origin};
 use std::alloc::Global;
 use tree_index::NodeInfo;
@@ -23,23 +22,13 @@ struct Meant {
     with_flavors: Names,
 }
 
-/// The name that is there, by where MOVED leads a word that is served.
-fn end_of(alloc: Global, answer: &Answer) -> Result<Text, NoMemory>
-    ensures { IfOk result (λ name. name ≡ nodes.end_of answer.now) }
-{
-    match &answer.to {
-        Follow::At(name) => name.copy(alloc),
-        _ => name_in(alloc, &answer.word),
-    }
-}
-
 /// The names that words mean.
 fn ends(alloc: Global, answers: &[Answer]) -> Result<Texts, NoMemory>
-    ensures { IfOk result (λ found. found ≡ map nodes.end_of answers.now) }
+    ensures { IfOk result (λ found. found ≡ map (λ answer. answer.name) answers.now) }
 {
     let mut found = Sequence::new(alloc);
     for answer in answers {
-        found.push(end_of(alloc, answer)?)?;
+        found.push(answer.name.copy(alloc)?)?;
     }
     Ok(found)
 }
@@ -50,20 +39,20 @@ fn ends_with_flavors(
     every_flavor: bool,
     answers: &[Answer],
 ) -> Result<Texts, NoMemory>
-    ensures { IfOk result (λ found. found ≡ map nodes.end_of (filter (nodes.asks_every every_flavor) answers.now)) }
+    ensures { IfOk result (λ found. found ≡ map (λ answer. answer.name) (filter (nodes.asks_every every_flavor) answers.now)) }
 {
     let mut found = Sequence::new(alloc);
     for answer in answers {
         if every_flavor || asks_all(&answer.word) {
-            found.push(end_of(alloc, answer)?)?;
+            found.push(answer.name.copy(alloc)?)?;
         }
     }
     Ok(found)
 }
 
 fn meant(alloc: Global, every_flavor: bool, answers: &[Answer]) -> Result<Meant, NoMemory>
-    ensures names { IfOk result (λ meant. (name : List ℕ) → is_among meant.names name ≡ is_among (map nodes.end_of answers.now) name) }
-    ensures flavors { IfOk result (λ meant. (name : List ℕ) → is_among meant.with_flavors name ≡ is_among (map nodes.end_of (filter (nodes.asks_every every_flavor) answers.now)) name) }
+    ensures names { IfOk result (λ meant. (name : List ℕ) → is_among meant.names name ≡ is_among (map (λ answer. answer.name) answers.now) name) }
+    ensures flavors { IfOk result (λ meant. (name : List ℕ) → is_among meant.with_flavors name ≡ is_among (map (λ answer. answer.name) (filter (nodes.asks_every every_flavor) answers.now)) name) }
 {
     Ok(Meant {
         names: Names::new(alloc, ends(alloc, answers)?)?,

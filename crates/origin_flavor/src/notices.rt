@@ -6,7 +6,6 @@ use crate::answer::Answer;
 use crate::told::Told;
 use bulk_base::NoMemory;
 use bulk_model::Notices;
-use moved_list::Follow;
 use std::alloc::Global;
 
 /// The notices of words, in their order, each word once.
@@ -15,8 +14,8 @@ pub(crate) fn notices(alloc: Global, answers: &[Answer]) -> Result<Notices, NoMe
 {
     let mut told = Told::new(alloc);
     for answer in answers {
-        if let Follow::At(name) = &answer.to {
-            told.add(alloc, &answer.word, name)?;
+        if answer.moved {
+            told.add(alloc, &answer.word, &answer.name)?;
         }
     }
     told.into_notices(alloc)

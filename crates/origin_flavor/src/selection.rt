@@ -1,10 +1,10 @@
 // What a command wants of a ports tree.
-ghost use Rattle.std.specs.Prelude.{◌≢◌, ◌<◌, ◌^◌, length, IfOk, IfErr, IfSome};
+ghost use Rattle.std.specs.Prelude.{◌≢◌, ◌<◌, ◌^◌, length, ◌≡◌, IfOk, IfErr, IfSome};
 ghost use Rattle.std.specs.List.{AllByRecursion};
 ghost use Rattle.std.specs.List.Sorted.{IsStrictlySortedBy};
 ghost use Rattle.std.specs.Option.{option_copied};
 ghost use Rattle.std.specs.Ordering.{nat_cmp};
-ghost use Rattle.origin_flavor.specs.Command.{IsWantedOf, IsRefusalOf};
+ghost use Rattle.origin_flavor.specs.Command.{wanted_of};
 
 use crate::answer::answers;
 use crate::fault::WantedError;
@@ -46,8 +46,8 @@ pub fn wanted(
     every_flavor: bool,
 ) -> Result<Wanted, WantedError>
     requires { IfSome list (λ bytes. length bytes.now < 2 ^ 32) }
-    ensures ok { IfOk result (IsWantedOf index.now (option_copied list) words.now all every_flavor) }
-    ensures refused { IfErr result (λ e. e ≢ WantedError.NoMemory → IsRefusalOf index.now (option_copied list) words.now e) }
+    ensures ok { IfOk result (λ found. wanted_of index.now (option_copied list) words.now all every_flavor ≡ Ok found) }
+    ensures refused { IfErr result (λ e. e ≢ WantedError.NoMemory → wanted_of index.now (option_copied list) words.now all every_flavor ≡ Err e) }
     ensures within { IfOk result (λ found. AllByRecursion (λ n. n < length index.now.nodes) found.nodes) }
     ensures order { IfOk result (λ found. IsStrictlySortedBy nat_cmp found.nodes) }
 {
