@@ -1,16 +1,17 @@
 -- What stands before the first byte of a kind in a text is a text.
-use Rattle.std.proofs.Common.{◌≡◌, ℕ, ◌<◌, ◌≤◌, Bool, true, false, List, length, get_or, take, arith, sym, inl, inr, subst}
+use Rattle.std.proofs.Common.{◌≡◌, ℕ, ◌<◌, ◌≤◌, Bool, true, false, List, length, get_or, take, arith, ap, sym, ◌∙◌, inl, inr, subst}
 use Rattle.std.specs.Prelude.{◌&&◌, ◌==◌}
 use Rattle.std.specs.List.{position_or_len, before_first}
 use Rattle.std.specs.Str.{is_utf8}
 use Rattle.std.proofs.lemmas.List.{take_all}
 use Rattle.std.proofs.lemmas.List.Sums.{passes_at_first}
 use Rattle.std.proofs.lemmas.Bool.{cases_lt, eqb-true}
-use Rattle.std.proofs.lemmas.Str.{IsUtf8-from_is_utf8}
+use Rattle.std.proofs.lemmas.Str.{is_utf8-from_IsUtf8, IsUtf8-from_is_utf8}
 use Rattle.bulk_base.specs.Text.{IsText, is_text, has_text_bytes}
 use Rattle.port_name.specs.Forms.{is_at}
 use Rattle.port_vars.proofs.TextParts.{IsText-before}
-use Rattle.origin_flavor.specs.ListFile.{is_hash}
+use Rattle.port_vars.proofs.Trimmed.{IsText-trim}
+use Rattle.origin_flavor.specs.ListFile.{is_hash, word_of}
 
 module _ (p : ℕ → Bool) (ascii : (b : ℕ) → p b ≡ true → b < 128) where
   IsText-before_first : (text : List ℕ) → IsText text → IsText (before_first p text)
@@ -28,10 +29,6 @@ hash_ascii b h = omega (arith, eqb-true b 35 h)
 at_ascii : (b : ℕ) → is_at b ≡ true → b < 128
 at_ascii b h = omega (arith, eqb-true b 64 h)
 
--- the text before a comment
-pub IsText-before_hash : (text : List ℕ) (place : ℕ) → place ≡ position_or_len is_hash text → IsText text → IsText (take place text)
-IsText-before_hash = IsText-front is_hash hash_ascii
-
 -- the text before `@`
 pub IsText-before_at : (text : List ℕ) (place : ℕ) → place ≡ position_or_len is_at text → IsText text → IsText (take place text)
 IsText-before_at = IsText-front is_at at_ascii
@@ -42,3 +39,10 @@ both a b t = grind arith
 -- what the test of texts means
 pub IsText-from_test : (bytes : List ℕ) → is_text bytes ≡ true → IsText bytes
 IsText-from_test bytes h = let parts = both (is_utf8 bytes) (has_text_bytes bytes) h in (IsUtf8-from_is_utf8 bytes parts.0, parts.1)
+
+pub is_text-from_IsText : (bytes : List ℕ) → IsText bytes → is_text bytes ≡ true
+is_text-from_IsText bytes h = ap (λ b. b && has_text_bytes bytes) (is_utf8-from_IsUtf8 bytes h.0) ∙ h.1
+
+-- the word of a line that is a text is one
+pub is_text-word : (line : List ℕ) → is_text line ≡ true → is_text (word_of line) ≡ true
+is_text-word line h = is_text-from_IsText (word_of line) (IsText-trim (before_first is_hash line) (IsText-before_first is_hash hash_ascii line (IsText-from_test line h)))

@@ -1,11 +1,11 @@
 // The words of a list file.
-ghost use Rattle.std.specs.Prelude.{◌≡◌, ◌≢◌, ◌<◌, ◌≤◌, ◌^◌, ◌++◌, ◌∷◌, [], length, All, slice_index_or, filter, IfOk, IfErr, IfSome, OnOk};
+ghost use Rattle.std.specs.Prelude.{◌≡◌, ◌≢◌, ◌<◌, ◌≤◌, ◌^◌, ◌++◌, ◌∷◌, [], length, All, slice_index_or, filter, IsTrue, IfOk, IfErr, IfSome, OnOk};
 ghost use Rattle.std.specs.List.{position_or_len, before_first};
 ghost use Rattle.std.specs.Option.{option_copied};
+ghost use Rattle.std.specs.Str.{is_utf8};
 ghost use Rattle.std.specs.Str.Lines.{lines as lines_of};
 ghost use Rattle.bulk_base.specs.Lines.{cut_at, IsSpanWithin};
 ghost use Rattle.bulk_base.specs.Text as texts;
-ghost use Rattle.bulk_base.specs.Text.{IsText};
 ghost use Rattle.bulk_base.specs.Words as words;
 ghost use Rattle.bulk_base.specs.Words.{is_filled};
 ghost use Rattle.port_vars.specs.Trim as trimmed;
@@ -23,8 +23,7 @@ fn is_blank(byte: u8) -> bool
 }
 
 fn trim_start(text: &[u8]) -> &[u8]
-    ensures value { result.now ≡ trimmed.trim_start text.now }
-    ensures text { IsText text.now → IsText result.now }
+    ensures { result.now ≡ trimmed.trim_start text.now }
 {
     for at in 0..text.len() {
         if !is_blank(text[at]) {
@@ -61,15 +60,13 @@ fn hash_place(line: &[u8]) -> usize
 
 /// What stands before a line's comment.
 fn uncommented(line: &[u8]) -> &[u8]
-    ensures value { result.now ≡ before_first is_hash line.now }
-    ensures text { IsText line.now → IsText result.now }
+    ensures { result.now ≡ before_first is_hash line.now }
 {
     &line[..hash_place(line)]
 }
 
 fn word_of(line: &[u8]) -> &[u8]
-    ensures value { result.now ≡ word_of line.now }
-    ensures text { IsText line.now → IsText result.now }
+    ensures { result.now ≡ word_of line.now }
 {
     trim(uncommented(line))
 }
@@ -80,10 +77,16 @@ fn has_text_bytes(bytes: &[u8]) -> bool
     bytes.iter().all(|b| *b != 0 && *b != b'\n')
 }
 
+fn is_utf8(bytes: &[u8]) -> bool
+    ensures { result ≡ is_utf8 bytes.now }
+{
+    str::from_utf8(bytes).is_ok()
+}
+
 fn is_text(bytes: &[u8]) -> bool
     ensures { result ≡ texts.is_text bytes.now }
 {
-    str::from_utf8(bytes).is_ok() && has_text_bytes(bytes)
+    is_utf8(bytes) && has_text_bytes(bytes)
 }
 
 /// The bytes at one of the spans.
@@ -99,7 +102,7 @@ fn line_at<'a>(bytes: &'a [u8], spans: &Spans, at: usize) -> &'a [u8]
 
 /// Puts the word of a line that is a text at the end, if there is one.
 fn take_line(alloc: Global, found: &mut Texts, line: &[u8]) -> Result<(), NoMemory>
-    requires { IsText line.now }
+    requires { IsTrue (texts.is_text line.now) }
     ensures { OnOk result (found.new ≡ found.old ++ filter is_filled (word_of line.now ∷ [])) }
 {
     let word = word_of(line);
