@@ -22,11 +22,11 @@ pub answered_begin : (index : IndexView) (words : List (List ℕ)) (found : List
 answered_begin index words found e = nothing_found (answers_of index words) ∙ ap (λ f. mapped (λ rest. f ++ rest) (answers_of index words)) (sym e)
 
 abbrev with_answer : Result Answer WantedError → Result (List Answer) WantedError → Result (List Answer) WantedError
-with_answer answer rest = answer >>= λ a. rest >>= λ as. Ok (a ∷ as)
+with_answer answer rest = answer >>= λ a. rest >>= λ others. Ok (a ∷ others)
 
 pushed : (found : List Answer) (answer : Answer) (rest : Result (List Answer) WantedError)
-    → mapped (λ as. found ++ as) (with_answer (Ok answer) rest) ≡ mapped (λ as. (found ++ answer ∷ []) ++ as) rest
-pushed found answer (Ok as) = ap Ok (sym (append_assoc found (answer ∷ []) as))
+    → mapped (λ others. found ++ others) (with_answer (Ok answer) rest) ≡ mapped (λ others. (found ++ answer ∷ []) ++ others) rest
+pushed found answer (Ok others) = ap Ok (sym (append_assoc found (answer ∷ []) others))
 pushed found answer (Err error) = refl
 
 left : (index : IndexView) (words : List (List ℕ)) (at : ℕ) (word : List ℕ) (found : List Answer) → at < length words → word ≡ get_or words at word → AnsweredSoFar index words at found

@@ -14,6 +14,9 @@ use Rattle.origin_flavor.specs.Notices.{notice_of, has_other_word, each_word_onc
 abbrev has_word_of : Notice → Notice → Bool
 has_word_of a b = bytes_eq a.word b.word
 
+abbrev pub told_by : List Answer → List Notice
+told_by answers = map notice_of (filter (λ answer. answer.moved) answers)
+
 abbrev pushed : Bool → List Notice → Notice → List Notice
 pushed there notices notice = cond there notices (notices ++ notice ∷ [])
 

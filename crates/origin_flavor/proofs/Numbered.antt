@@ -15,7 +15,7 @@ push_case true last n at rest = refl
 push_case false last n at rest = refl
 
 pub numbers_from-push : (n : ℕ) (test : NodeInfo → Bool) (nodes : List NodeInfo) (node : NodeInfo)
-    → numbers_from n test (nodes ++ node ∷ []) ≡ numbers_from n test nodes ++ cond (test node) (n + length nodes ∷ []) []
+    → numbers_from n test (nodes ++ node ∷ []) ≡ numbers_from n test nodes ++ cond (test node) ((n + length nodes) ∷ []) []
 numbers_from-push n test [] node = ap (λ m. cond (test node) (m ∷ []) []) (let e : n ≡ n + 0 = omega arith in e)
 numbers_from-push n test (first ∷ nodes) node =
     ap (λ rest. cond (test first) (n ∷ rest) rest) (numbers_from-push (n + 1) test nodes node)
@@ -54,9 +54,11 @@ is_less : (n k : ℕ) → n + 1 ≤ k → nat_cmp n k ≡ Less
 is_less n k l = grind arith
 
 order_case : (b : Bool) (n : ℕ) (rest : List ℕ) → AllByRecursion (λ k. n + 1 ≤ k) rest → IsStrictlySortedBy nat_cmp rest → IsStrictlySortedBy nat_cmp (cond b (n ∷ rest) rest)
+unfolding IsStrictlySortedBy
 order_case true n rest a o = (all_weaker (λ k. n + 1 ≤ k) (λ k. nat_cmp n k ≡ Less) (is_less n) rest a, o)
 order_case false n rest a o = o
 
 pub numbers_order : (n : ℕ) (test : NodeInfo → Bool) (nodes : List NodeInfo) → IsStrictlySortedBy nat_cmp (numbers_from n test nodes)
+unfolding IsStrictlySortedBy
 numbers_order n test [] = tt
 numbers_order n test (node ∷ nodes) = order_case (test node) n (numbers_from (n + 1) test nodes) (above (n + 1) (n + 1) test nodes (omega arith)) (numbers_order (n + 1) test nodes)

@@ -69,7 +69,7 @@ fn answer_by(
 }
 
 /// What a word comes to.
-fn answer(alloc: Global, index: &Index, word: Text) -> Result<Answer, WantedError>
+fn answer_for(alloc: Global, index: &Index, word: Text) -> Result<Answer, WantedError>
     ensures ok { IfOk result (λ answer. answer_of index.now word ≡ Ok answer) }
     ensures refused { IfErr result (λ e. e ≢ WantedError.NoMemory → answer_of index.now word ≡ Err e) }
 {
@@ -88,7 +88,7 @@ pub(crate) fn answers(alloc: Global, index: &Index, words: &[Text]) -> Result<An
 {
     let mut found = Sequence::new(alloc);
     for word in words {
-        found.push(answer(alloc, index, word.copy(alloc)?)?)?;
+        found.push(answer_for(alloc, index, word.copy(alloc)?)?)?;
     }
     Ok(found)
 }

@@ -2,15 +2,15 @@
 #![tactic(auto)]
 
 mod answer;
+mod command;
 mod fault;
 mod list_file;
 mod nodes;
 mod notices;
 mod selection;
-#[cfg(test)]
-mod tests;
 mod told;
 mod word;
 
+pub use command::wanted;
 pub use fault::WantedError;
-pub use selection::{Wanted, wanted};
+pub use selection::Wanted;

@@ -149,8 +149,8 @@ pub(crate) fn wanted_words(
     words: &[Text],
 ) -> Result<Texts, WantedError>
     requires { IfSome list (λ bytes. length bytes.now < 2 ^ 32) }
-    ensures ok { IfOk result (λ found. wanted_words (option_copied list) words.now ≡ Ok found) }
-    ensures refused { IfErr result (λ e. e ≢ WantedError.NoMemory → wanted_words (option_copied list) words.now ≡ Err e) }
+    ensures ok { IfOk result (λ found. wanted_words (option_copied list.entry) words.now ≡ Ok found) }
+    ensures refused { IfErr result (λ e. e ≢ WantedError.NoMemory → wanted_words (option_copied list.entry) words.now ≡ Err e) }
 {
     let mut found = match list {
         Some(bytes) => listed(alloc, bytes)?,

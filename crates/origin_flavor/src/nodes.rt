@@ -1,5 +1,5 @@
 // The numbers of the nodes that words mean.
-ghost use Rattle.std.specs.Prelude.{◌≡◌, ◌||◌, ◌<◌, ◌^◌, ℕ, List, length, map, filter, IfOk};
+ghost use Rattle.std.specs.Prelude.{◌≡◌, ◌||◌, ◌&&◌, ◌<◌, ◌^◌, ℕ, List, length, map, filter, IfOk};
 ghost use Rattle.std.specs.List.{list_any, AllByRecursion};
 ghost use Rattle.port_name.specs.Sets.{is_among};
 ghost use Rattle.tree_index.specs.Places.{origin_name};
@@ -14,8 +14,11 @@ use port_name::{Names, Origin};
 use std::alloc::Global;
 use tree_index::NodeInfo;
 
-/// The names that words mean.
+/// What is wanted, by the names that words mean.
+#[derive(Drop)]
 struct Meant {
+    /// Whether all nodes are wanted, whatever the words mean.
+    all: bool,
     /// Those of all words.
     names: Names,
     /// Those of the words that ask for all flavors.
@@ -50,11 +53,18 @@ fn ends_with_flavors(
     Ok(found)
 }
 
-fn meant(alloc: Global, every_flavor: bool, answers: &[Answer]) -> Result<Meant, NoMemory>
+fn meant_by(
+    alloc: Global,
+    answers: &[Answer],
+    all: bool,
+    every_flavor: bool,
+) -> Result<Meant, NoMemory>
+    ensures all { IfOk result (λ meant. meant.all ≡ all) }
     ensures names { IfOk result (λ meant. (name : List ℕ) → is_among meant.names name ≡ is_among (map (λ answer. answer.name) answers.now) name) }
     ensures flavors { IfOk result (λ meant. (name : List ℕ) → is_among meant.with_flavors name ≡ is_among (map (λ answer. answer.name) (filter (nodes.asks_every every_flavor) answers.now)) name) }
 {
     Ok(Meant {
+        all,
         names: Names::new(alloc, ends(alloc, answers)?)?,
         with_flavors: Names::new(alloc, ends_with_flavors(alloc, every_flavor, answers)?)?,
     })
@@ -68,12 +78,12 @@ fn origin_text(alloc: Global, origin: &Origin) -> Result<Text, NoMemory>
     Text::of(alloc, text.as_str().as_bytes())
 }
 
-/// Whether a word means a node.
+/// Whether a node is wanted.
 fn is_meant(alloc: Global, meant: &Meant, node: &NodeInfo) -> Result<bool, NoMemory>
-    ensures { IfOk result (λ found. found ≡ (is_among meant.now.names node.now.node
-        || ((node.now.is_default && is_among meant.now.names (origin_name node.now.origin)) || is_among meant.now.with_flavors (origin_name node.now.origin)))) }
+    ensures { IfOk result (λ found. found ≡ (meant.now.all || (is_among meant.now.names node.now.node
+        || ((node.now.is_default && is_among meant.now.names (origin_name node.now.origin)) || is_among meant.now.with_flavors (origin_name node.now.origin))))) }
 {
-    if meant.names.holds(&node.node) {
+    if meant.all || meant.names.holds(&node.node) {
         return Ok(true);
     }
     let origin = origin_text(alloc, &node.origin)?;
@@ -91,10 +101,10 @@ pub(crate) fn wanted_numbers(
     requires { length nodes.now < 2 ^ 32 }
     ensures { IfOk result (λ found. found ≡ wanted_numbers all every_flavor answers.now nodes.now) }
 {
-    let meant = meant(alloc, every_flavor, answers)?;
+    let meant = meant_by(alloc, answers, all, every_flavor)?;
     let mut found = Sequence::new(alloc);
     for at in 0..nodes.len() {
-        if all || is_meant(alloc, &meant, &nodes[at])? {
+        if is_meant(alloc, &meant, &nodes[at])? {
             found.push(at as u32)?;
         }
     }
