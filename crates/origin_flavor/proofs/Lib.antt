@@ -4,3 +4,4 @@ pub mod Answered
 pub mod Meant
 pub mod Numbered
 pub mod Noticed
+pub mod ToldView
