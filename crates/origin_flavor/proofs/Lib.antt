@@ -5,3 +5,4 @@ pub mod Meant
 pub mod Numbered
 pub mod Noticed
 pub mod ToldView
+pub mod Commanded

@@ -4,11 +4,12 @@ use Rattle.std.specs.List.{AllByRecursion}
 use Rattle.std.specs.List.Sorted.{IsStrictlySortedBy}
 use Rattle.std.specs.Ordering.{nat_cmp}
 use Rattle.std.specs.declared.cmp.Ordering.TheVariants.{Less}
-use Rattle.std.proofs.lemmas.List.{take_all, length-take}
+use Rattle.std.proofs.lemmas.List.{take_all, length-take, append-nil}
 use Rattle.port_desc.proofs.Turns.{taken_more}
 use Rattle.port_desc.proofs.Lists.{all_weaker}
 use Rattle.tree_index.specs.declared.node.NodeInfo.{NodeInfo}
-use Rattle.origin_flavor.specs.Nodes.{numbers_from}
+use Rattle.origin_flavor.specs.declared.answer.Answer.{Answer}
+use Rattle.origin_flavor.specs.Nodes.{numbers_from, is_wanted, wanted_numbers}
 
 push_case : (b last : Bool) (n at : ℕ) (rest : List ℕ) → cond b (n ∷ (rest ++ cond last (at ∷ []) [])) (rest ++ cond last (at ∷ []) []) ≡ cond b (n ∷ rest) rest ++ cond last (at ∷ []) []
 push_case true last n at rest = refl
@@ -22,12 +23,22 @@ numbers_from-push n test (first ∷ nodes) node =
     ∙ push_case (test first) (test node) n (n + 1 + length nodes) (numbers_from (n + 1) test nodes)
     ∙ ap (λ m. numbers_from n test (first ∷ nodes) ++ cond (test node) (m ∷ []) []) (let e : n + 1 + length nodes ≡ n + length (first ∷ nodes) = omega arith in e)
 
-pub numbers_more : (test : NodeInfo → Bool) (nodes : List NodeInfo) (at : ℕ) (node : NodeInfo) (found more : List ℕ) → at < length nodes → node ≡ get_or nodes at node
-    → more ≡ found ++ cond (test node) (at ∷ []) [] → found ≡ numbers_from 0 test (take at nodes) → more ≡ numbers_from 0 test (take (at + 1) nodes)
-numbers_more test nodes at node found more l e m so_far =
+kept_case : (b : Bool) (found : List ℕ) (at : ℕ) → cond b (found ++ at ∷ []) found ≡ found ++ cond b (at ∷ []) []
+kept_case true found at = refl
+kept_case false found at = sym (append-nil found)
+
+pub numbers_more : (test : NodeInfo → Bool) (b : Bool) (nodes : List NodeInfo) (at : ℕ) (node : NodeInfo) (found more : List ℕ) → at < length nodes → node ≡ get_or nodes at node → test node ≡ b
+    → more ≡ cond b (found ++ at ∷ []) found → found ≡ numbers_from 0 test (take at nodes) → more ≡ numbers_from 0 test (take (at + 1) nodes)
+numbers_more test b nodes at node found more l e t m so_far =
     let size : at ≡ 0 + length (take at nodes) = omega (arith, length-take at nodes) in
-    m ∙ ap (λ f. f ++ cond (test node) (at ∷ []) []) so_far ∙ ap (λ k. numbers_from 0 test (take at nodes) ++ cond (test node) (k ∷ []) []) size
+    m ∙ kept_case b found at ∙ ap (λ f. f ++ cond b (at ∷ []) []) so_far ∙ ap (λ c. numbers_from 0 test (take at nodes) ++ cond c (at ∷ []) []) (sym t)
+    ∙ ap (λ k. numbers_from 0 test (take at nodes) ++ cond (test node) (k ∷ []) []) size
     ∙ sym (numbers_from-push 0 test (take at nodes) node) ∙ ap (numbers_from 0 test) (sym (taken_more nodes at node l e))
+
+pub numbers_all : (all every : Bool) (answers : List Answer) (nodes : List NodeInfo) (at : ℕ) (found : List ℕ) → length nodes ≤ at → found ≡ numbers_from 0 (is_wanted all every answers) (take at nodes)
+    → found ≡ wanted_numbers all every answers nodes
+unfolding wanted_numbers
+numbers_all all every answers nodes at found l so_far = so_far ∙ ap (numbers_from 0 (is_wanted all every answers)) (take_all at nodes l)
 
 -- their range
 within_case : (b : Bool) (n most : ℕ) (rest : List ℕ) → n < most → AllByRecursion (λ k. k < most) rest → AllByRecursion (λ k. k < most) (cond b (n ∷ rest) rest)
@@ -62,3 +73,12 @@ pub numbers_order : (n : ℕ) (test : NodeInfo → Bool) (nodes : List NodeInfo)
 unfolding IsStrictlySortedBy
 numbers_order n test [] = tt
 numbers_order n test (node ∷ nodes) = order_case (test node) n (numbers_from (n + 1) test nodes) (above (n + 1) (n + 1) test nodes (omega arith)) (numbers_order (n + 1) test nodes)
+
+-- the same of the wanted nodes
+pub wanted_within : (all every : Bool) (answers : List Answer) (nodes : List NodeInfo) → AllByRecursion (λ k. k < length nodes) (wanted_numbers all every answers nodes)
+unfolding wanted_numbers
+wanted_within all every answers nodes = numbers_within (is_wanted all every answers) nodes
+
+pub wanted_order : (all every : Bool) (answers : List Answer) (nodes : List NodeInfo) → IsStrictlySortedBy nat_cmp (wanted_numbers all every answers nodes)
+unfolding wanted_numbers
+wanted_order all every answers nodes = numbers_order 0 (is_wanted all every answers) nodes

@@ -1,5 +1,5 @@
 -- What stands before the first byte of a kind in a text is a text.
-use Rattle.std.proofs.Common.{◌≡◌, ℕ, ◌<◌, ◌≤◌, Bool, true, false, List, length, get_or, take, arith, ap, sym, ◌∙◌, inl, inr, subst}
+use Rattle.std.proofs.Common.{◌≡◌, ℕ, ◌<◌, ◌≤◌, Bool, true, false, List, [], ◌∷◌, ◌++◌, length, get_or, take, arith, ap, sym, ◌∙◌, inl, inr, subst, refl}
 use Rattle.std.specs.Prelude.{◌&&◌, ◌==◌}
 use Rattle.std.specs.List.{position_or_len, before_first}
 use Rattle.std.specs.Str.{is_utf8}
@@ -9,7 +9,7 @@ use Rattle.std.proofs.lemmas.Bool.{cases_lt, eqb-true}
 use Rattle.std.proofs.lemmas.Str.{is_utf8-from_IsUtf8, IsUtf8-from_is_utf8}
 use Rattle.bulk_base.specs.Text.{IsText, is_text, has_text_bytes}
 use Rattle.port_name.specs.Forms.{is_at}
-use Rattle.port_vars.proofs.TextParts.{IsText-before}
+use Rattle.port_vars.proofs.TextParts.{IsText-before, IsText-append, IsText-byte}
 use Rattle.port_vars.proofs.Trimmed.{IsText-trim}
 use Rattle.origin_flavor.specs.ListFile.{is_hash, word_of}
 
@@ -46,3 +46,8 @@ is_text-from_IsText bytes h = ap (λ b. b && has_text_bytes bytes) (is_utf8-from
 -- the word of a line that is a text is one
 pub is_text-word : (line : List ℕ) → is_text line ≡ true → is_text (word_of line) ≡ true
 is_text-word line h = is_text-from_IsText (word_of line) (IsText-trim (before_first is_hash line) (IsText-before_first is_hash hash_ascii line (IsText-from_test line h)))
+
+-- an origin's name is a text
+pub is_text-origin : (category port : List ℕ) → IsText category → IsText port → is_text ((category ++ 47 ∷ []) ++ port) ≡ true
+is_text-origin category port c p =
+    is_text-from_IsText ((category ++ 47 ∷ []) ++ port) (IsText-append (category ++ 47 ∷ []) port (IsText-append category (47 ∷ []) c (IsText-byte 47 (omega arith) refl)) p)

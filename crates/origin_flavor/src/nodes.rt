@@ -74,8 +74,10 @@ fn meant_by(
 fn origin_text(alloc: Global, origin: &Origin) -> Result<Text, NoMemory>
     ensures { IfOk result (λ text. text ≡ origin_name origin.now) }
 {
-    let text = format!(in alloc; "{}/{}", origin.category, origin.port)?;
-    Text::of(alloc, text.as_str().as_bytes())
+    let mut name = Vec::from_slice(alloc, origin.category.bytes())?;
+    name.push(b'/')?;
+    name.extend_from_slice(origin.port.bytes())?;
+    Text::of(alloc, name.as_slice())
 }
 
 /// Whether a node is wanted.
