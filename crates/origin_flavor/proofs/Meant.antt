@@ -1,15 +1,14 @@
 -- A node is meant by a word just where one of the names that words mean is its own or its port's.
-use Rattle.std.proofs.Common.{◌≡◌, ℕ, ◌+◌, ◌<◌, ◌≤◌, Bool, true, false, List, [], ◌∷◌, ◌++◌, length, get_or, take, cond, arith, ◌∙◌, ap, sym, refl}
+use Rattle.std.proofs.Common.{◌≡◌, ℕ, ◌+◌, ◌<◌, Bool, true, false, List, [], ◌∷◌, ◌++◌, length, get_or, take, cond, arith, ◌∙◌, ap, sym, refl}
 use Rattle.std.specs.Prelude.{◌&&◌, ◌||◌, map, filter, bytes_eq}
 use Rattle.std.specs.List.{list_any}
 use Rattle.std.specs.Cmp.Lexicographic.{nat_list_eq_equiv}
-use Rattle.std.proofs.lemmas.List.{map-append, take_all, append-nil}
+use Rattle.std.proofs.lemmas.List.{map-append, append-nil}
 use Rattle.std.proofs.lemmas.List.Elements.{filter-append}
 use Rattle.port_name.specs.Sets.{is_among}
 use Rattle.port_desc.proofs.Turns.{taken_more}
 use Rattle.tree_index.specs.declared.node.NodeInfo.{NodeInfo}
 use Rattle.tree_index.specs.Places.{origin_name}
-use Rattle.tree_index.specs.Targets.{is_meant}
 use Rattle.origin_flavor.specs.declared.answer.Answer.{Answer}
 use Rattle.origin_flavor.specs.Nodes.{asks_every, means}
 

@@ -1,6 +1,6 @@
 -- What stands before the first byte of a kind in a text is a text.
-use Rattle.std.proofs.Common.{◌≡◌, ℕ, ◌<◌, ◌≤◌, Bool, true, false, List, [], ◌∷◌, ◌++◌, length, get_or, take, arith, ap, sym, ◌∙◌, inl, inr, subst, refl}
-use Rattle.std.specs.Prelude.{◌&&◌, ◌==◌}
+use Rattle.std.proofs.Common.{◌≡◌, ℕ, ◌<◌, Bool, true, List, [], ◌∷◌, ◌++◌, length, get_or, take, arith, ap, sym, ◌∙◌, inl, inr, subst, refl}
+use Rattle.std.specs.Prelude.{◌&&◌}
 use Rattle.std.specs.List.{position_or_len, before_first}
 use Rattle.std.specs.Str.{is_utf8}
 use Rattle.std.proofs.lemmas.List.{take_all}

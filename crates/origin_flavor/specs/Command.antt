@@ -2,7 +2,7 @@
 use Rattle.std.specs.Prelude.{ℕ, Bool, List}
 use Rattle.std.specs.declared.option.Option.{Option}
 use Rattle.std.specs.declared.result.Result.{Result}
-use Rattle.std.specs.declared.result.Result.TheVariants.{Ok, Err}
+use Rattle.std.specs.declared.result.Result.TheVariants.{Ok}
 use Rattle.port_vars.specs.Assignment.{◌>>=◌}
 use Rattle.tree_index.specs.Index.{IndexView}
 use Rattle.origin_flavor.specs.declared.fault.WantedError.{WantedError}

@@ -1,5 +1,5 @@
 -- What is told of the words that moved (poudriere-bulk(8); docs/FORMATS.md, "Wanted ports").
-use Rattle.std.specs.Prelude.{ℕ, Bool, not, List, [], ◌∷◌, ◌++◌, filter, map, bytes_eq, if◌then◌else◌}
+use Rattle.std.specs.Prelude.{Bool, not, List, [], ◌∷◌, ◌++◌, filter, map, bytes_eq, if◌then◌else◌}
 use Rattle.std.specs.List.{list_any}
 use Rattle.bulk_model.specs.declared.reason.Notice.{Notice}
 use Rattle.origin_flavor.specs.declared.answer.Answer.{Answer}

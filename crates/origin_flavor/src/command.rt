@@ -45,7 +45,13 @@ pub fn wanted(
     let asked = wanted_words(alloc, list, words)?;
     let answers = answers(alloc, index, asked.as_slice())?;
     Ok(Wanted {
-        nodes: wanted_numbers(alloc, index.nodes.as_slice(), answers.as_slice(), all, every_flavor)?,
+        nodes: wanted_numbers(
+            alloc,
+            index.nodes.as_slice(),
+            answers.as_slice(),
+            all,
+            every_flavor,
+        )?,
         notices: notices(alloc, answers.as_slice())?,
     })
 }

@@ -1,4 +1,4 @@
-use Rattle.std.proofs.Common.{◌≡◌, ◌∙◌, ◌++◌, ◌∷◌, [], ap, sym}
+use Rattle.std.proofs.Common.{◌≡◌, ◌∙◌, ◌++◌, ◌∷◌, [], ap}
 use Rattle.bulk_base.specs.Text.{is_text}
 use Rattle.origin_flavor.proofs.Pieces.{is_text-origin}
 use Rattle.origin_flavor.proofs.nodes.origin_text.Goals as goal

@@ -1,9 +1,9 @@
-use Rattle.std.proofs.Common.{◌≡◌, ◌∙◌, ◌++◌, ◌∷◌, [], Bool, true, false, ap, sym, ℕ, List, is_some, String}
+use Rattle.std.proofs.Common.{◌≡◌, ◌∙◌, ◌++◌, ◌∷◌, [], Bool, true, false, ap, sym, ℕ, List, String}
 use Rattle.std.specs.Prelude.{bytes_eq}
 use Rattle.std.specs.List.{list_any}
 use Rattle.std.specs.String.{string_bytes}
 use Rattle.std.proofs.lemmas.Map.Made.{is_some-lookup}
-use Rattle.indexmap.specs.IndexMap.{keys, values, get_by}
+use Rattle.indexmap.specs.IndexMap.{keys, values}
 use Rattle.bulk_model.specs.declared.reason.Notice.{Notice}
 use Rattle.origin_flavor.specs.Notices.{with_notice}
 use Rattle.origin_flavor.proofs.ToldView.{any_key, entries_more, texts_push, values_push, told_more, told_same}
