@@ -27,7 +27,7 @@ use tree_index::Index;
 /// where its port was removed, MovedLoop where MOVED leads it in a circle. NoMemory for want of memory alone.
 ///
 /// Each byte of the list file is looked at a fixed number of times. Each word costs its chain's look-ups, of O(log n)
-/// comparisons each, and each node two look-ups among the names that the words mean.
+/// comparisons each, and each node at most three look-ups among the names that the words mean.
 pub fn wanted(
     alloc: Global,
     index: &Index,

@@ -1,10 +1,9 @@
 // The numbers of the nodes that words mean.
 ghost use Rattle.std.specs.Prelude.{◌≡◌, ◌||◌, ◌&&◌, ◌<◌, ◌^◌, ℕ, List, length, map, filter, IfOk};
-ghost use Rattle.std.specs.List.{list_any, AllByRecursion};
 ghost use Rattle.port_name.specs.Sets.{is_among};
 ghost use Rattle.tree_index.specs.Places.{origin_name};
 ghost use Rattle.origin_flavor.specs.Nodes as nodes;
-ghost use Rattle.origin_flavor.specs.Nodes.{is_wanted, wanted_numbers};
+ghost use Rattle.origin_flavor.specs.Nodes.{wanted_numbers};
 
 use crate::answer::Answer;
 use crate::word::asks_all;
@@ -81,7 +80,7 @@ fn origin_text(alloc: Global, origin: &Origin) -> Result<Text, NoMemory>
 }
 
 /// Whether a node is wanted.
-fn is_meant(alloc: Global, meant: &Meant, node: &NodeInfo) -> Result<bool, NoMemory>
+fn is_wanted(alloc: Global, meant: &Meant, node: &NodeInfo) -> Result<bool, NoMemory>
     ensures { IfOk result (λ found. found ≡ (meant.now.all || (is_among meant.now.names node.now.node
         || ((node.now.is_default && is_among meant.now.names (origin_name node.now.origin)) || is_among meant.now.with_flavors (origin_name node.now.origin))))) }
 {
@@ -92,7 +91,8 @@ fn is_meant(alloc: Global, meant: &Meant, node: &NodeInfo) -> Result<bool, NoMem
     Ok((node.is_default && meant.names.holds(&origin)) || meant.with_flavors.holds(&origin))
 }
 
-/// The numbers of the nodes that are wanted. Each node costs two look-ups among the names that the words mean.
+/// The numbers of the nodes that are wanted. Each node costs at most three look-ups among the
+/// names that the words mean.
 pub(crate) fn wanted_numbers(
     alloc: Global,
     nodes: &[NodeInfo],
@@ -106,7 +106,7 @@ pub(crate) fn wanted_numbers(
     let meant = meant_by(alloc, answers, all, every_flavor)?;
     let mut found = Sequence::new(alloc);
     for at in 0..nodes.len() {
-        if is_meant(alloc, &meant, &nodes[at])? {
+        if is_wanted(alloc, &meant, &nodes[at])? {
             found.push(at as u32)?;
         }
     }

@@ -11,9 +11,9 @@ loop-at-preserved c =
     let meant = c.in_ok-meant.meant in
     let node = c.index-nodes-at.result in
     let test = is_wanted c.args.all c.args.every_flavor c.args.answers.now in
-    let says : test node ≡ c.in_ok-is_meant.field-0 =
+    let says : test node ≡ c.in_ok-is_wanted.field-0 =
     ap (λ b. c.args.all || b) (sym (found_in_sets meant.names meant.with_flavors c.args.every_flavor c.args.answers.now node c.in_ok-meant.ensures.names c.in_ok-meant.ensures.flavors))
-    ∙ ap (λ b. b || found_for meant.names meant.with_flavors node) (sym c.in_ok-meant.ensures.all) ∙ sym c.in_ok-is_meant.ensures in
+    ∙ ap (λ b. b || found_for meant.names meant.with_flavors node) (sym c.in_ok-meant.ensures.all) ∙ sym c.in_ok-is_wanted.ensures in
     elim c.if-branch.branch [
       | then-branch+in_ok-push w ↦
           numbers_more test true c.args.nodes.now c.loop-at.at node c.loop-at.found c.if-branch.found (omega arith) c.index-nodes-at.is (says ∙ w.if-branch.true) (w.found-is ∙ w.in_ok-push.ensures.ok) c.loop-at.invariant
