@@ -1,0 +1,8 @@
+pub mod Pieces
+pub mod Listed
+pub mod Answered
+pub mod Meant
+pub mod Numbered
+pub mod Noticed
+pub mod ToldView
+pub mod Commanded

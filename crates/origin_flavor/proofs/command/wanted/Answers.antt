@@ -1,0 +1,47 @@
+use Rattle.std.proofs.Common.{◌≡◌, ◌∙◌, ◌<◌, length, Ok, ap, sym, subst}
+use Rattle.std.specs.List.{AllByRecursion}
+use Rattle.std.specs.List.Sorted.{IsStrictlySortedBy}
+use Rattle.std.specs.Ordering.{nat_cmp}
+use Rattle.std.specs.Option.{option_copied}
+use Rattle.std.proofs.lemmas.Result.{err_from_is_err_and}
+use Rattle.tree_index.specs.Index.{IndexView}
+use Rattle.origin_flavor.specs.Answers.{answers_of}
+use Rattle.origin_flavor.specs.Nodes.{wanted_numbers}
+use Rattle.origin_flavor.specs.Notices.{notices_of}
+use Rattle.origin_flavor.proofs.Commanded.{bad_list, refused_word, all_served}
+use Rattle.origin_flavor.proofs.Numbered.{wanted_within, wanted_order}
+use Rattle.origin_flavor.proofs.command.wanted.Goals as goal
+
+pub returns-in_err-asked-clause-refused : goal.returns-in_err-asked-clause-refused
+returns-in_err-asked-clause-refused c =
+    let p = err_from_is_err_and c.from_residual.result c.from_residual.ensures.1 in
+    rw (p.1, p.2) (λ some. bad_list c.args.index.now (option_copied c.args.list) c.args.words.now c.args.all c.args.every_flavor _ (c.in_err-asked.ensures.refused some))
+
+pub returns-in_err-answers-clause-refused : goal.returns-in_err-answers-clause-refused
+returns-in_err-answers-clause-refused c =
+    let p = err_from_is_err_and c.from_residual-in_err-answers.result c.from_residual-in_err-answers.ensures.1 in
+    rw (p.1, p.2) (λ some. refused_word c.args.index.now (option_copied c.args.list) c.args.words.now c.args.all c.args.every_flavor c.in_ok-asked.asked _ c.in_ok-asked.ensures.ok
+    (ap (answers_of c.args.index.now) (sym c.as_slice.ensures) ∙ c.in_err-answers.ensures.refused some))
+
+answered : (c : goal.After-drop-asked-inside-2) → answers_of c.args.index.now c.in_ok-asked.asked ≡ Ok c.in_ok-answers.answers
+answered c = ap (answers_of c.args.index.now) (sym c.as_slice.ensures) ∙ c.in_ok-answers.ensures.ok
+
+numbered : (c : goal.After-drop-asked-inside-2) → c.in_ok-wanted_numbers.field-0 ≡ wanted_numbers c.args.all c.args.every_flavor c.in_ok-answers.answers c.args.index.now.nodes
+numbered c =
+    c.in_ok-wanted_numbers.ensures
+    ∙ ap (λ answers. wanted_numbers c.args.all c.args.every_flavor answers c.as_slice-2.result.now) c.as_slice-3.ensures
+    ∙ ap (wanted_numbers c.args.all c.args.every_flavor c.in_ok-answers.answers) (c.as_slice-2.ensures ∙ ap (λ (index : IndexView). index.nodes) c.index.view_is)
+
+pub returns-clause-ok : goal.returns-clause-ok
+returns-clause-ok c =
+    all_served c.args.index.now (option_copied c.args.list) c.args.words.now c.args.all c.args.every_flavor c.in_ok-asked.asked c.in_ok-answers.answers
+    (record { nodes = c.in_ok-wanted_numbers.field-0; notices = c.in_ok-notices.field-0 }) c.in_ok-asked.ensures.ok (answered c) (numbered c)
+    (c.in_ok-notices.ensures ∙ ap notices_of c.as_slice-4.ensures)
+
+pub returns-clause-within : goal.returns-clause-within
+returns-clause-within c =
+    subst (AllByRecursion (λ n. n < length c.args.index.now.nodes)) (sym (numbered c)) (wanted_within c.args.all c.args.every_flavor c.in_ok-answers.answers c.args.index.now.nodes)
+
+pub returns-clause-order : goal.returns-clause-order
+returns-clause-order c =
+    subst (IsStrictlySortedBy nat_cmp) (sym (numbered c)) (wanted_order c.args.all c.args.every_flavor c.in_ok-answers.answers c.args.index.now.nodes)

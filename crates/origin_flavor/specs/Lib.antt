@@ -1,0 +1,6 @@
+pub mod ListFile
+pub mod Words
+pub mod Answers
+pub mod Nodes
+pub mod Notices
+pub mod Command
