@@ -36,7 +36,7 @@ fn index_with(alloc: Global, moved: Moved, listed: NodeInfos) -> Result<Index, N
 /// Reads a whole ports tree (docs/FORMATS.md, "The index of a ports tree"). Ports that are marked as broken are tried where
 /// `try_broken` says so or make.conf sets TRYBROKEN.
 ///
-/// TreeFault exactly where the tree failed, NoMemory for want of memory alone. Else the first refusal is answered:
+/// TreeFault only where the tree's count of faults rose, NoMemory for want of memory alone. Else the first refusal is answered:
 ///
 /// 1. that of `ports/subdir.vars`
 /// 2. that of `ports/MOVED`, which may be absent: BadPort with BadMoved at its first bad line, or Limit FileBytes with
