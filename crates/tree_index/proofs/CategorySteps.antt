@@ -1,5 +1,5 @@
 -- The nodes of a category, by its list and its ports.
-use Rattle.std.proofs.Common.{◌≡◌, ℕ, Bool, List, ap, Ok, Err, Result}
+use Rattle.std.proofs.Common.{◌≡◌, ℕ, Bool, List, ap, Ok, Err}
 use Rattle.outside.specs.Contents.{Contents}
 use Rattle.conf_file.specs.declared.make.MakeConf.{MakeConf}
 use Rattle.port_vars.specs.Assignment.{◌>>=◌}

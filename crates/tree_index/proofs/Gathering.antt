@@ -1,5 +1,5 @@
 -- The nodes of ports and of categories that are read in byte order.
-use Rattle.std.proofs.Common.{◌≡◌, ℕ, ◌+◌, ◌<◌, List, [], ◌∷◌, ◌++◌, refl, ap, sym, subst, ◌∙◌, length, drop, get_or}
+use Rattle.std.proofs.Common.{◌≡◌, ℕ, ◌+◌, ◌<◌, List, ◌∷◌, ◌++◌, ap, sym, subst, ◌∙◌, length, drop, get_or}
 use Rattle.std.specs.declared.cmp.Ordering.{Ordering}
 use Rattle.std.specs.declared.cmp.Ordering.TheVariants.{Less, Equal}
 use Rattle.std.specs.Ordering.{nat_cmp}
@@ -13,7 +13,7 @@ use Rattle.std.specs.Prelude.{IsTrue}
 use Rattle.bulk_base.specs.Names.{is_port_name}
 use Rattle.port_name.specs.declared.place.Origin.{Origin}
 use Rattle.tree_index.specs.declared.node.NodeInfo.{NodeInfo}
-use Rattle.tree_index.specs.Facts.{IsPlace, IsNodeInfo, ArePortNodes}
+use Rattle.tree_index.specs.Facts.{IsNodeInfo, ArePortNodes}
 use Rattle.tree_index.specs.Gathered.{IsNameList, AreWhole, AreOf}
 use Rattle.tree_index.proofs.Lists.{all_append, all_weaker, all_both, all_drop, sorted_drop}
 use Rattle.tree_index.proofs.Whole.{AreApart, AreAllApart, whole_append, whole_port, same_category, same_name}

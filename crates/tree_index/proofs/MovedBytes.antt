@@ -1,5 +1,5 @@
 -- One byte more than MOVED may have is enough to know what it says.
-use Rattle.std.proofs.Common.{◌≡◌, ℕ, ◌+◌, ◌<◌, ◌≤◌, true, false, List, [], length, take, arith, ◌∙◌, sym, ap, refl, inl, inr, Result}
+use Rattle.std.proofs.Common.{◌≡◌, ℕ, ◌+◌, ◌<◌, true, false, List, [], length, take, arith, ◌∙◌, sym, ap, refl, inl, inr}
 use Rattle.std.specs.Prelude.{nat_le, Option, Some, None, if◌then◌else◌}
 use Rattle.std.specs.Option.{option_map, option_map_or}
 use Rattle.std.specs.declared.result.Result.TheVariants.{Ok, Err}
@@ -7,9 +7,7 @@ use Rattle.std.proofs.lemmas.Bool.{cases_lt}
 use Rattle.std.proofs.lemmas.Bool.Decides.{nat_tests}
 use Rattle.std.proofs.lemmas.List.{take_all, length-take}
 use Rattle.bulk_model.specs.declared.reason.Which.TheVariants.{FileBytes}
-use Rattle.moved_list.specs.declared.line.MovedLine.{MovedLine}
 use Rattle.moved_list.specs.Moved.{moved_of}
-use Rattle.tree_index.specs.declared.fault.IndexError.{IndexError}
 use Rattle.tree_index.specs.declared.fault.IndexError.TheVariants.{Limit}
 use Rattle.tree_index.specs.Faults.{moved_fault, refused_as}
 use Rattle.tree_index.specs.Places.{moved_file}

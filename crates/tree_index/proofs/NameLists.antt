@@ -1,6 +1,6 @@
 -- Words all of which are names of categories or ports.
 use Rattle.std.proofs.Common.{◌≡◌, ℕ, Bool, true, false, List, [], ◌∷◌, refl, ap, sym, cond, arith, Ok, Err}
-use Rattle.std.specs.Prelude.{find, Option, Some, None, ◌&&◌, not, codes}
+use Rattle.std.specs.Prelude.{find, Some, None, ◌&&◌, not, codes}
 use Rattle.std.specs.List.{AllByRecursion, list_all}
 use Rattle.std.proofs.lemmas.Option.{none-some}
 use Rattle.bulk_base.specs.Names.{is_port_name}

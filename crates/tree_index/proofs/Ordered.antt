@@ -2,7 +2,6 @@
 use Rattle.std.proofs.Common.{◌≡◌, ℕ, ◌≤◌, List, sym, subst, ◌∙◌, length}
 use Rattle.std.specs.Prelude.{map, filter, bytes_eq}
 use Rattle.std.specs.List.{IsDistinct}
-use Rattle.std.specs.FinMap as finite
 use Rattle.bulk_base.proofs.MapView.{keys_ascend}
 use Rattle.outside.specs.Contents.{IsAscending}
 use Rattle.tree_index.specs.declared.node.NodeInfo.{NodeInfo}

@@ -1,11 +1,10 @@
 -- Nodes of whole ports, behind those of other ports.
-use Rattle.std.proofs.Common.{◌≡◌, ℕ, Bool, true, false, List, [], ◌∷◌, ◌++◌, refl, ap, sym, subst, ◌∙◌, length}
-use Rattle.std.specs.Prelude.{Option, Some, None, map, filter, bytes_eq, ◌&&◌, IsTrue}
+use Rattle.std.proofs.Common.{◌≡◌, ℕ, Bool, true, false, List, [], ◌++◌, refl, ap, sym, subst, ◌∙◌, length}
+use Rattle.std.specs.Prelude.{Option, Some, None, map, filter, bytes_eq, ◌&&◌}
 use Rattle.std.specs.List.{AllByRecursion, IsDistinct}
-use Rattle.std.proofs.lemmas.Bool.{false≢true}
 use Rattle.std.proofs.lemmas.List.{map-append, append-nil}
 use Rattle.std.proofs.lemmas.Slice.Eq.{bytes_eq-Decides}
-use Rattle.bulk_base.specs.Names.{node_of, origin_of, is_port_name}
+use Rattle.bulk_base.specs.Names.{node_of}
 use Rattle.port_name.specs.declared.place.Origin.{Origin}
 use Rattle.tree_index.specs.declared.node.NodeInfo.{NodeInfo}
 use Rattle.tree_index.specs.Facts.{IsPlace, IsNodeInfo, ArePortNodes, is_default_of}

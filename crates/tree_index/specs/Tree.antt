@@ -1,5 +1,5 @@
 -- The nodes of a ports tree (docs/FORMATS.md, "The tree folder").
-use Rattle.std.specs.Prelude.{◌≡◌, ℕ, ◌+◌, Bool, nat_le, List, [], ◌∷◌, ◌++◌, length, take, map, find, bytes_eq, codes, if◌then◌else◌}
+use Rattle.std.specs.Prelude.{ℕ, ◌+◌, Bool, nat_le, List, [], ◌∷◌, ◌++◌, length, find, bytes_eq, if◌then◌else◌}
 use Rattle.std.specs.List.{fold}
 use Rattle.std.specs.declared.option.Option.{Option}
 use Rattle.std.specs.declared.option.Option.TheVariants.{None, Some}
@@ -12,12 +12,11 @@ use Rattle.std.specs.FinMap as finite
 use Rattle.bulk_model.specs.declared.reason.Which.TheVariants.{Nodes, FileBytes}
 use Rattle.outside.specs.Contents.{Contents}
 use Rattle.port_vars.specs.Assignment.{◌>>=◌}
-use Rattle.port_name.specs.declared.place.Origin.{Origin}
 use Rattle.conf_file.specs.declared.make.MakeConf.{MakeConf}
 use Rattle.moved_list.specs.declared.line.MovedLine.{MovedLine}
 use Rattle.moved_list.specs.Moved.{moved_of}
 use Rattle.tree_index.specs.declared.fault.IndexError.{IndexError}
-use Rattle.tree_index.specs.declared.fault.IndexError.TheVariants.{BadPort, Limit, DupName}
+use Rattle.tree_index.specs.declared.fault.IndexError.TheVariants.{Limit, DupName}
 use Rattle.tree_index.specs.declared.node.NodeInfo.{NodeInfo}
 use Rattle.tree_index.specs.Places.{categories_file, moved_file, ports_file}
 use Rattle.tree_index.specs.Faults.{moved_fault, refused_as}

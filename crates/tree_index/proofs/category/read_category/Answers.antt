@@ -1,9 +1,8 @@
-use Rattle.std.proofs.Common.{◌≡◌, ◌∙◌, ap, sym, Ok, Err}
+use Rattle.std.proofs.Common.{◌∙◌, ap, sym}
 use Rattle.std.proofs.lemmas.Result.{err_from_is_err_and, IfOk-weaker, IfErr-weaker}
 use Rattle.outside.specs.Contents.{Contents}
-use Rattle.tree_index.specs.Places.{ports_file}
 use Rattle.tree_index.specs.VarFiles.{listed_in}
-use Rattle.tree_index.specs.Tree.{nodes_of_ports, nodes_of_category}
+use Rattle.tree_index.specs.Tree.{nodes_of_ports}
 use Rattle.tree_index.proofs.CategorySteps.{list_refused, list_read}
 use Rattle.tree_index.proofs.category.read_category.Goals as goal
 

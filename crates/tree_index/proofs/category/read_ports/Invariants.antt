@@ -1,8 +1,7 @@
 use Rattle.std.proofs.Common.{◌≡◌, drop}
 use Rattle.std.specs.Prelude.{IsTrue}
 use Rattle.tree_index.specs.Gathered.{AreWhole, AreOf}
-use Rattle.tree_index.specs.PortNodes.{port_nodes}
-use Rattle.tree_index.specs.Tree.{each_in_turn, nodes_of_ports}
+use Rattle.tree_index.specs.Tree.{nodes_of_ports}
 use Rattle.tree_index.proofs.InTurn.{joined}
 use Rattle.tree_index.proofs.Gathering.{AreBefore, port_of}
 use Rattle.tree_index.proofs.category.read_ports.Given as goal

@@ -1,5 +1,5 @@
 use Rattle.std.proofs.Common.{◌≡◌, ◌∙◌, ap, sym, subst, Ok, Err}
-use Rattle.std.specs.Prelude.{find, Some, None}
+use Rattle.std.specs.Prelude.{find, None}
 use Rattle.std.specs.Option.{option_copied}
 use Rattle.option_set.specs.Named.{in_order}
 use Rattle.tree_index.specs.declared.fault.IndexError.TheVariants.{BadPort}

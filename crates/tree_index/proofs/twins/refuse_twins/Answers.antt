@@ -1,7 +1,6 @@
 use Rattle.std.proofs.Common.{◌≡◌, ◌∙◌, ap, sym, Err}
 use Rattle.tree_index.specs.declared.node.NodeInfo.{NodeInfo}
 use Rattle.tree_index.specs.declared.fault.IndexError.TheVariants.{DupName}
-use Rattle.tree_index.specs.Tree.{apart}
 use Rattle.tree_index.proofs.TwinNodes.{names_apart, no_first_twins, refused_by}
 use Rattle.tree_index.proofs.twins.refuse_twins.Goals as goal
 
