@@ -1,7 +1,7 @@
 pub mod Numbered
 pub mod Known
 pub mod Aimed
-pub mod Ordered
+pub mod SameWords
 pub mod OneParts
 pub mod EnoughBytes
 pub mod Steps
@@ -20,3 +20,6 @@ pub mod NameLists
 pub mod Whole
 pub mod Gathering
 pub mod CategorySteps
+pub mod MovedBytes
+pub mod Ordered
+pub mod TreeSteps

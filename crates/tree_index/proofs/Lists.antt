@@ -64,6 +64,7 @@ filter_same p q (x ∷ xs) h = (λ i. cond (h.0 i) (x ∷ filter_same p q xs h.1
 -- what holds of each pair, told the other way round
 pub transposed : {X Y : Type 0} (R : X → Y → Type 0) (xs : List X) (ys : List Y) → AllByRecursion (λ x. AllByRecursion (R x) ys) xs → AllByRecursion (λ y. AllByRecursion (λ x. R x y) xs) ys
 transposed R xs [] h = tt
-transposed R xs (y ∷ ys) h =
-    (all_weaker (λ x. AllByRecursion (R x) (y ∷ ys)) (λ x. R x y) xs (λ x rows. rows.0) h,
-      transposed R xs ys (all_weaker (λ x. AllByRecursion (R x) (y ∷ ys)) (λ x. AllByRecursion (R x) ys) xs (λ x rows. rows.1) h))
+transposed R xs (y ∷ ys) h = (
+  all_weaker (λ x. AllByRecursion (R x) (y ∷ ys)) (λ x. R x y) xs (λ x rows. rows.0) h,
+  transposed R xs ys (all_weaker (λ x. AllByRecursion (R x) (y ∷ ys)) (λ x. AllByRecursion (R x) ys) xs (λ x rows. rows.1) h),
+)

@@ -32,7 +32,7 @@ names_listed words h = record {
 }
 
 pub listed_by : (path : List ℕ) (words : List (List ℕ)) → find is_no_port_name words ≡ None → names_among path words ≡ Ok (in_order words)
-listed_by path words h = ap (λ found. elim found [ | None ↦ Ok (in_order words) | Some word ↦ Err (BadPort path 0 (BadValue (codes "SUBDIR"))) ]) h
+listed_by path words h = ap (λ found. elim found [ None ↦ Ok (in_order words) | Some word ↦ Err (BadPort path 0 (BadValue (codes "SUBDIR"))) ]) h
 
 pub refused_by : (path word : List ℕ) (words : List (List ℕ)) → find is_no_port_name words ≡ Some word → names_among path words ≡ Err (BadPort path 0 (BadValue (codes "SUBDIR")))
-refused_by path word words h = ap (λ found. elim found [ | None ↦ Ok (in_order words) | Some word ↦ Err (BadPort path 0 (BadValue (codes "SUBDIR"))) ]) h
+refused_by path word words h = ap (λ found. elim found [ None ↦ Ok (in_order words) | Some word ↦ Err (BadPort path 0 (BadValue (codes "SUBDIR"))) ]) h

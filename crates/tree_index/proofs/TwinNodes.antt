@@ -93,7 +93,7 @@ unfolding IsDistinct
 names_apart [] h = tt
 names_apart (node ∷ nodes) h =
     elim (find (are_twins node) nodes) as (λ o. find (are_twins node) nodes ≡ o → twins_by node (first_twins nodes) o ≡ None
-        → IsDistinct bytes_eq (map (λ node. node.desc.name) (node ∷ nodes))) [
+    → IsDistinct bytes_eq (map (λ node. node.desc.name) (node ∷ nodes))) [
       | Some other ↦ λ _ e. absurd (none-some (node, other) (sym e))
       | None ↦ λ o e. (names_mapped node nodes (none_like (are_twins node) nodes o), names_apart nodes e)
     ] refl h
@@ -117,5 +117,5 @@ some_numbered nodes twins a b (Some pair) p q h =
 pub refused_by : (nodes : List NodeInfo) (found : Option Twins) (twins : Twins) (a b : NodeInfo) → found ≡ Some twins → a ≡ get_or nodes twins.least a → b ≡ get_or nodes twins.other b
     → IsFirstTwins nodes 0 found → apart nodes ≡ Err (DupName a.node b.node a.desc.name)
 refused_by nodes found twins a b e p q h =
-    ap (λ pair. elim pair [ | None ↦ Ok nodes | Some twins ↦ Err (DupName twins.0.node twins.1.node twins.0.desc.name) ])
+    ap (λ pair. elim pair [ None ↦ Ok nodes | Some twins ↦ Err (DupName twins.0.node twins.1.node twins.0.desc.name) ])
     (some_numbered nodes twins a b (first_twins nodes) p q (subst (λ f. AreNumbers nodes f (first_twins nodes)) e h))

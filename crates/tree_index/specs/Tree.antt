@@ -28,11 +28,15 @@ use Rattle.tree_index.specs.PortNodes.{port_nodes}
 abbrev pub most_file_bytes : ℕ
 most_file_bytes = 4194304
 
+-- what a MOVED of at most so many bytes says
+abbrev pub moved_within : ℕ → List ℕ → Result (List MovedLine) IndexError
+moved_within most bytes =
+    if nat_le (length bytes) most then refused_as (moved_fault moved_file) (moved_of bytes)
+    else Err (Limit FileBytes (most + 1))
+
 -- what MOVED says; more is not read than one byte past the most
-abbrev pub moved_in : List ℕ → Result (List MovedLine) IndexError
-moved_in bytes =
-    if nat_le (length bytes) most_file_bytes then refused_as (moved_fault moved_file) (moved_of bytes)
-    else Err (Limit FileBytes (most_file_bytes + 1))
+unfoldable pub moved_in : List ℕ → Result (List MovedLine) IndexError
+moved_in bytes = moved_within most_file_bytes bytes
 
 -- what the tree's MOVED says, nothing where it is absent, or its refusal
 abbrev pub moved_at : Contents → Result (List MovedLine) IndexError
@@ -74,7 +78,7 @@ unfoldable pub ordered : List NodeInfo → List NodeInfo
 ordered nodes = finite.values (by_name nodes)
 
 -- at most 16,384 nodes
-abbrev pub few : List NodeInfo → Result (List NodeInfo) IndexError
+unfoldable pub few : List NodeInfo → Result (List NodeInfo) IndexError
 few nodes = if nat_le (length nodes) 16384 then Ok nodes else Err (Limit Nodes (length nodes))
 
 -- two nodes have packages of one name

@@ -55,6 +55,7 @@ fn in_order(alloc: Global, words: &[Text]) -> Result<Texts, NoMemory>
     set.keys(alloc)
 }
 
+/// The first word that is no name of a category or a port.
 fn first_bad(words: &Texts) -> Option<&Text>
     ensures { option_copied result ≡ find files.is_no_port_name words.now }
 {

@@ -29,6 +29,7 @@ fn moved_fault(alloc: Global, path: &Path, fault: MovedError) -> IndexError
 }
 
 /// What a MOVED with these bytes says.
+#[tactic(auto, unfolding(crate::specs::Tree::moved_in))]
 fn moved_in(alloc: Global, path: &Path, bytes: &[u8]) -> Result<Moved, IndexError>
     requires { path.now ≡ places.moved_file }
     ensures ok { IfOk result (λ moved. trees.moved_in bytes.now ≡ Ok moved) }

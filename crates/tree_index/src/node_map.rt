@@ -24,9 +24,6 @@ fn by_name(alloc: Global, nodes: NodeInfos) -> Result<BTreeMap<Text, NodeInfo>, 
 pub(crate) fn in_name_order(alloc: Global, nodes: NodeInfos) -> Result<NodeInfos, NoMemory>
     ensures { IfOk result (λ sorted. sorted ≡ trees.ordered nodes) }
 {
-    let mut sorted = Vec::new(alloc);
-    for node in by_name(alloc, nodes)?.into_values() {
-        sorted.push(node)?;
-    }
+    let sorted: Vec<NodeInfo> = by_name(alloc, nodes)?.into_values().collect(alloc)?;
     Ok(Sequence::from_vec(sorted))
 }

@@ -20,8 +20,9 @@ use std::alloc::Global;
 // The most nodes of a tree.
 const MOST_NODES: usize = 16_384;
 
-// Refuses more than 16,384 nodes: Limit of Nodes with their number.
-fn refuse_many(nodes: &[NodeInfo]) -> Result<(), IndexError>
+/// Refuses more than 16,384 nodes: Limit of Nodes with their number.
+#[tactic(auto, unfolding(crate::specs::Tree::few))]
+pub(crate) fn refuse_many(nodes: &[NodeInfo]) -> Result<(), IndexError>
     ensures ok { OnOk result (few nodes.now ≡ Ok nodes.now) }
     ensures refused { IfErr result (λ e. few nodes.now ≡ Err e) }
     ensures form { OnOk result (length nodes.now ≤ 16384) }
