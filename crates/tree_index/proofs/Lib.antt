@@ -1,7 +1,7 @@
 pub mod Numbered
 pub mod Known
 pub mod Aimed
-pub mod Ordered
+pub mod SameWords
 pub mod OneParts
 pub mod EnoughBytes
 pub mod Steps
@@ -22,4 +22,3 @@ pub mod Gathering
 pub mod CategorySteps
 pub mod MovedBytes
 pub mod TreeSteps
-pub mod WordsInOrder

@@ -2,7 +2,7 @@ use Rattle.std.proofs.Common.{sym, subst}
 use Rattle.tree_index.specs.Targets.{names_of}
 use Rattle.tree_index.specs.Facts.{IsIndex}
 use Rattle.tree_index.proofs.Aimed.{are_of, index_made, index_is}
-use Rattle.tree_index.proofs.WordsInOrder.{in_order_are}
+use Rattle.tree_index.proofs.SameWords.{in_order_are}
 use Rattle.tree_index.proofs.indexing.index_with.Goals as goal
 
 pub invariant_of-result : goal.invariant_of-result
