@@ -1,6 +1,7 @@
 pub mod Numbered
 pub mod Known
 pub mod Aimed
+pub mod Ordered
 pub mod SameWords
 pub mod OneParts
 pub mod EnoughBytes
