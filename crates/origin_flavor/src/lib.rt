@@ -8,6 +8,8 @@ mod list_file;
 mod nodes;
 mod notices;
 mod selection;
+#[cfg(test)]
+mod tests;
 mod told;
 mod word;
 
