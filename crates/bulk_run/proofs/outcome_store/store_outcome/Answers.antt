@@ -5,11 +5,11 @@ use Rattle.bulk_model.specs.Spelling.{spelling}
 use Rattle.bulk_model.specs.Views.{PackageView}
 use Rattle.bulk_run.specs.Report.{stored}
 use Rattle.bulk_run.proofs.Ending.{made_or_not}
-use Rattle.bulk_run.proofs.port_run.store_outcome.Goals as goal
+use Rattle.bulk_run.proofs.outcome_store.store_outcome.Goals as goal
 
 pub returns-in-Ok-clause-told : goal.returns-in-Ok-clause-told
 returns-in-Ok-clause-told g c t =
-    (c.in-Ok.ensures.told t).content
+    (c.save.ensures.told t).content
     ∙ ap (λ (p : PackageView). insert (g.S.Store.content c.args.store.now) (package_file p.name) (spelling p)) c.get.ensures
     ∙ ap (λ o. stored o (g.S.Store.content c.args.store.now)) (sym c.in-Built.is)
 
