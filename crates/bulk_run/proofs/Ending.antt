@@ -3,12 +3,8 @@ use Rattle.std.proofs.Common.{◌≡◌, ℕ, ◌≤◌, Bool, true, false, List
 use Rattle.std.specs.Prelude.{◌⊎◌, Option, Some, None, Result, Ok, Err, unwrap_or, if◌then◌else◌, get_or, length, set, take, IfErr}
 use Rattle.std.proofs.lemmas.List.{append-nil}
 use Rattle.std.specs.Option.{is_some, option_map_or, option_or}
-use Rattle.outside.specs.Changes.{Made, TookEffect, IsUnchanged, changed}
 use Rattle.outside.specs.Contents.{Contents}
 use Rattle.outside.specs.Faults.{Rose}
-use Rattle.outside.specs.declared.change.Change.{Change}
-use Rattle.outside.specs.declared.outer.Outer.{Outer}
-use Rattle.outside.specs.declared.outer.Outer.TheVariants.{Fault, NoMemory as Refused}
 use Rattle.bulk_run.specs.declared.answer.Answer.{Answer}
 use Rattle.bulk_run.specs.declared.answer.Answer.TheVariants.{Done, Usage, Builders, NotYet, NoOrigin, TreeFault, StoreFault, RoomFault, SinkFault, NoMemory}
 use Rattle.bulk_model.specs.Bake.{Runs}
@@ -22,13 +18,6 @@ use Rattle.bulk_run.specs.Ending.{BeganAtMost, BeganFirst, GrewBySome, IsBlamed,
 use Rattle.bulk_run.specs.AnswerLine.{answer_status}
 use mathlib.Core.Bool.{true≢false}
 use Rattle.std.proofs.lemmas.Bool.{eqb-true}
-
--- after a fault the change was made or nothing changed
-pub made_or_not : (change : Change) (before now : Contents) (told_before told_now : List Change) (X : Type 0) (outer : Outer) (after : Contents) → outer ≡ Fault
-    → Made change before now told_before told_now (let r : Result X Outer = Err outer in r) → changed change before ≡ after → (now ≡ before) ⊎ (now ≡ after)
-made_or_not change before now told_before told_now X Fault after e (inl made) h = inr (made.content ∙ h)
-made_or_not change before now told_before told_now X Fault after e (inr kept) h = inl kept.content
-made_or_not change before now told_before told_now X Refused after e kept h = inl kept.content
 
 -- no name was begun, whatever is wanted
 pub none_began : (wanted : Option PortsWanted) (before now : List (List ℕ)) → now ≡ before → BeganAtMost wanted before now

@@ -1,9 +1,9 @@
 -- The entries of the lists of a run that built some ports, and the lists that stay empty.
 use Rattle.std.proofs.Common.{◌≡◌, ℕ, zero, suc, ◌+◌, ◌<◌, ◌≤◌, List, [], ◌∷◌, ◌++◌, length, get_or, arith, sym, ap, refl, ◌∙◌, map}
-use Rattle.std.specs.Prelude.{Option, Some, None}
+use Rattle.std.specs.Prelude.{Option, Some, None, ◌||◌}
 use Rattle.std.specs.Option.{option_map, option_to_list}
 use Rattle.std.specs.Fmt.{decimal}
-use Rattle.std.specs.List.{filter_map, cons_option, range_with_len}
+use Rattle.std.specs.List.{list_any, filter_map, cons_option, range_with_len}
 use Rattle.std.proofs.lemmas.List.{map-append, map-id, get_or-map, get_or_default}
 use Rattle.std.proofs.lemmas.List.Elements.{filter_map-append}
 use Rattle.std.proofs.lemmas.List.FromFn.{map-range_with_len_more}
@@ -14,7 +14,7 @@ use Rattle.bulk_model.specs.declared.outcome.Phase.TheVariants.{Package}
 use Rattle.bulk_model.specs.declared.results.Status.{Status}
 use Rattle.bulk_model.specs.declared.results.Status.TheVariants.{Kept, Built, Failed, Ignored, Skipped}
 use Rattle.bulk_model.specs.Fit.{status_in}
-use Rattle.bulk_model.specs.Lists.{entries, kept_entry, built_entry, failed_entry, ignored_entry, skipped_entry, two_words, phase_word}
+use Rattle.bulk_model.specs.Lists.{entries, is_setback, kept_entry, built_entry, failed_entry, ignored_entry, skipped_entry, two_words, phase_word}
 use Rattle.bulk_model.specs.Results.{status_of_outcome, no_job}
 use Rattle.bulk_model.specs.Views.{JobView}
 use Rattle.bulk_run.specs.PortsPlan.{plan_of}
@@ -100,3 +100,8 @@ none_ignored jobs outcomes l = no_entry (ignored_entry (plan_of jobs)) jobs outc
 pub none_skipped : (jobs : List JobView) (outcomes : List Outcome) → length outcomes ≡ length jobs
     → entries (skipped_entry (plan_of jobs) (map status_of_outcome outcomes)) (plan_of jobs) (map status_of_outcome outcomes) ≡ []
 none_skipped jobs outcomes l = no_entry (skipped_entry (plan_of jobs) (map status_of_outcome outcomes)) jobs outcomes l (not_skipped jobs (map status_of_outcome outcomes))
+
+-- a port that failed is a setback
+pub setback_among : (outcomes : List Outcome) → list_any is_setback (map status_of_outcome outcomes) ≡ list_any (λ outcome. is_setback (status_of_outcome outcome)) outcomes
+setback_among [] = refl
+setback_among (outcome ∷ outcomes) = ap (λ b. is_setback (status_of_outcome outcome) || b) (setback_among outcomes)

@@ -1,11 +1,15 @@
 -- What is built, begun and stored after some ports of a list.
 use Rattle.std.proofs.Common.{◌≡◌, ℕ, zero, suc, ◌+◌, ◌<◌, ◌≤◌, Bool, List, [], ◌∷◌, ◌++◌, ◌∙◌, ap, sym, subst, refl, inl, inr, length, take, get_or, map, arith}
-use Rattle.std.specs.Prelude.{◌⊎◌, Result, Ok, Err, OnErr}
+use Rattle.std.specs.Prelude.{◌⊎◌, Result, Ok, Err, OnOk, OnErr}
 use Rattle.std.specs.List.{AllZip}
 use Rattle.std.proofs.lemmas.List.{append-nil, append_assoc, map-append, take_all, take_more}
 use Rattle.std.proofs.lemmas.Slice.Zip.{all_zipped_more}
+use Rattle.outside.specs.Changes.{Made, changed}
 use Rattle.outside.specs.Contents.{Contents}
 use Rattle.outside.specs.Outcomes.{GrewByAtMost}
+use Rattle.outside.specs.declared.change.Change.{Change}
+use Rattle.outside.specs.declared.outer.Outer.{Outer}
+use Rattle.outside.specs.declared.outer.Outer.TheVariants.{Fault, NoMemory}
 use Rattle.bulk_model.specs.declared.outcome.Outcome.{Outcome}
 use Rattle.bulk_model.specs.Bake.{Runs}
 use Rattle.bulk_model.specs.Views.{JobView}
@@ -51,6 +55,20 @@ began_more jobs i job before mid now l e m (inr n) = (i, n ∙ m)
 pub began_all : (jobs : List JobView) (before now : List (List ℕ)) → now ≡ before ++ names_of jobs → BeganFirst jobs before now
 began_all jobs before now n = (length jobs, n ∙ ap (λ js. before ++ names_of js) (sym (take_all (length jobs) jobs (omega arith))))
 
+-- a change that was made, and one that was made or not
+pub made : {X : Type 0} (change : Change) (before now : Contents) (told_before told_now : List Change) (result : Result X Outer) (after : Contents)
+    → Made change before now told_before told_now result → changed change before ≡ after → OnOk result (now ≡ after)
+made change before now told_before told_now (Ok x) after h e = h.content ∙ e
+made change before now told_before told_now (Err Fault) after h e = tt
+made change before now told_before told_now (Err NoMemory) after h e = tt
+
+pub made_or_not : {X : Type 0} (change : Change) (before now : Contents) (told_before told_now : List Change) (result : Result X Outer) (after : Contents)
+    → Made change before now told_before told_now result → changed change before ≡ after → OnErr result ((now ≡ before) ⊎ (now ≡ after))
+made_or_not change before now told_before told_now (Ok x) after h e = tt
+made_or_not change before now told_before told_now (Err Fault) after (inl h) e = inr (h.content ∙ e)
+made_or_not change before now told_before told_now (Err Fault) after (inr h) e = inl h.content
+made_or_not change before now told_before told_now (Err NoMemory) after h e = inl h.content
+
 -- one more package
 stored_all-append : (front back : List Outcome) (store : Contents) → stored_all (front ++ back) store ≡ stored_all back (stored_all front store)
 stored_all-append [] back store = refl
@@ -81,8 +99,13 @@ AllZip-take R [] (y ∷ ys) (suc n) h = absurd h
 AllZip-take R (x ∷ xs) [] (suc n) h = absurd h
 AllZip-take R (x ∷ xs) (y ∷ ys) (suc n) h = (h.0, AllZip-take R xs ys n h.1)
 
-pub has_stored_first : (tells : Bool) (runs : Runs) (jobs : List JobView) (outcomes : List Outcome) (before now : Contents) → AreBuildsOf tells runs jobs outcomes → KeepsFirst outcomes before now → HasStoredFirst tells runs jobs before now
-has_stored_first tells runs jobs outcomes before now h (count, n) = record {
+pub has_stored_first : (tells : Bool) (runs : Runs) (jobs built : List JobView) (outcomes kept : List Outcome) (before now : Contents) → built ≡ jobs → kept ≡ outcomes
+    → AreBuildsOf tells runs built outcomes → KeepsFirst kept before now → HasStoredFirst tells runs jobs before now
+has_stored_first tells runs jobs built outcomes kept before now b k h (count, n) = record {
   count = count;
-  stored = record { outcomes = take count outcomes; builds = AllZip-take (IsBuildOf tells runs) jobs outcomes count h; content = n };
+  stored = record {
+    outcomes = take count outcomes;
+    builds = AllZip-take (IsBuildOf tells runs) jobs outcomes count (subst (λ js. AreBuildsOf tells runs js outcomes) b h);
+    content = n ∙ ap (λ os. stored_all (take count os) before) k;
+  };
 }

@@ -1,11 +1,11 @@
 // What a run of ports prints, and its exit status.
 ghost use Rattle.std.specs.Prelude.{◌≡◌, ◌++◌, [], ◌∷◌, length, map, IfOk, OnOk, OnErr};
-ghost use Rattle.std.specs.List.{flat_map};
+ghost use Rattle.std.specs.List.{flat_map, list_any};
 ghost use Rattle.std.specs.Option.{option_map, option_to_list};
 ghost use Rattle.std.specs.String.{string_bytes};
 ghost use Rattle.bulk_base.specs.Names.{node_of};
 ghost use Rattle.bulk_model.specs.Lists as model;
-ghost use Rattle.bulk_model.specs.Lists.{entries, notice_line, two_words};
+ghost use Rattle.bulk_model.specs.Lists.{entries, is_setback, notice_line, two_words};
 ghost use Rattle.bulk_model.specs.Results.{status_of_outcome};
 ghost use Rattle.bulk_run.specs.PortsPlan.{plan_of};
 ghost use Rattle.bulk_run.specs.Report.{ports_status, ports_text};
@@ -169,14 +169,24 @@ pub(crate) fn port_lists(
     Ok(text(alloc, jobs, notices, outcomes)?.into_bytes())
 }
 
+fn is_failed(outcome: &Outcome) -> bool
+    ensures { result ≡ is_setback (status_of_outcome outcome.now) }
+{
+    match outcome {
+        Outcome::Built(_) => false,
+        Outcome::Failed { .. } => true,
+    }
+}
+
+fn has_failed(outcomes: &[Outcome]) -> bool
+    ensures { result ≡ list_any (λ outcome. is_setback (status_of_outcome outcome)) outcomes.now }
+{
+    outcomes.iter().any(|outcome| is_failed(outcome))
+}
+
 /// The exit status of such a run: 0 where all ports were built, 1 where one failed.
 pub(crate) fn setback(outcomes: &[Outcome]) -> u8
     ensures { result ≡ ports_status outcomes.now }
 {
-    for outcome in outcomes {
-        if let Outcome::Failed { .. } = outcome {
-            return 1;
-        }
-    }
-    0
+    u8::from(has_failed(outcomes))
 }
