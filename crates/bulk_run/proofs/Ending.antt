@@ -1,14 +1,10 @@
 -- How a run ends: what was begun, what was stored, and whom the answer blames.
 use Rattle.std.proofs.Common.{◌≡◌, ℕ, ◌≤◌, Bool, true, false, List, [], ◌∷◌, ◌++◌, ◌∙◌, ap, sym, subst, refl, inl, inr}
-use Rattle.std.specs.Prelude.{◌⊎◌, Option, Some, None, Result, Ok, Err, unwrap_or, if◌then◌else◌, get_or, length, set, IfErr}
+use Rattle.std.specs.Prelude.{◌⊎◌, Option, Some, None, Result, Ok, Err, unwrap_or, if◌then◌else◌, get_or, length, set, take, IfErr}
+use Rattle.std.proofs.lemmas.List.{append-nil}
 use Rattle.std.specs.Option.{is_some, option_map_or, option_or}
-use Rattle.outside.specs.Changes.{Made, TookEffect, IsUnchanged, changed}
 use Rattle.outside.specs.Contents.{Contents}
 use Rattle.outside.specs.Faults.{Rose}
-use Rattle.outside.specs.Outcomes.{GrewByAtMost}
-use Rattle.outside.specs.declared.change.Change.{Change}
-use Rattle.outside.specs.declared.outer.Outer.{Outer}
-use Rattle.outside.specs.declared.outer.Outer.TheVariants.{Fault, NoMemory as Refused}
 use Rattle.bulk_run.specs.declared.answer.Answer.{Answer}
 use Rattle.bulk_run.specs.declared.answer.Answer.TheVariants.{Done, Usage, Builders, NotYet, NoOrigin, TreeFault, StoreFault, RoomFault, SinkFault, NoMemory}
 use Rattle.bulk_model.specs.Bake.{Runs}
@@ -16,34 +12,28 @@ use Rattle.bulk_model.specs.Views.{JobView}
 use Rattle.bulk_run.specs.declared.port_run.Report.{Report}
 use Rattle.bulk_run.specs.Causes.{IsCaused, err_is, is_refusal, leaves_rooms, leaves_store, blames_tree, blames_store, blames_room}
 use Rattle.bulk_run.specs.Decided.{is_inner, is_of_tree, is_of_words, AnswersWords, EndsAs, EndsInTree}
-use Rattle.bulk_run.specs.PortRun.{HasStoredWanted, RanWanted}
-use Rattle.bulk_run.specs.Ending.{BeganAtMost, GrewByOne, IsBlamed, HaveNotRisen, IsStatusOf, begun_in_first}
+use Rattle.bulk_run.specs.PortsWanted.{PortsWanted, names_of}
+use Rattle.bulk_run.specs.PortsRun.{HasStoredWanted, RanWanted}
+use Rattle.bulk_run.specs.Ending.{BeganAtMost, BeganFirst, GrewBySome, IsBlamed, HaveNotRisen, IsStatusOf, begun_in_first}
 use Rattle.bulk_run.specs.AnswerLine.{answer_status}
 use mathlib.Core.Bool.{true≢false}
 use Rattle.std.proofs.lemmas.Bool.{eqb-true}
 
--- after a fault the change was made or nothing changed
-pub made_or_not : (change : Change) (before now : Contents) (told_before told_now : List Change) (X : Type 0) (outer : Outer) (after : Contents) → outer ≡ Fault
-    → Made change before now told_before told_now (let r : Result X Outer = Err outer in r) → changed change before ≡ after → (now ≡ before) ⊎ (now ≡ after)
-made_or_not change before now told_before told_now X Fault after e (inl made) h = inr (made.content ∙ h)
-made_or_not change before now told_before told_now X Fault after e (inr kept) h = inl kept.content
-made_or_not change before now told_before told_now X Refused after e kept h = inl kept.content
-
 -- no name was begun, whatever is wanted
-pub none_began : (wanted : Option JobView) (before now : List (List ℕ)) → now ≡ before → BeganAtMost wanted before now
+pub none_began : (wanted : Option PortsWanted) (before now : List (List ℕ)) → now ≡ before → BeganAtMost wanted before now
 none_began None before now e = e
-none_began (Some job) before now e = inr e
+none_began (Some ports) before now e = (0, e ∙ sym (append-nil before))
 
-pub wanted_began : (wanted : Option JobView) (job : JobView) (before now : List (List ℕ)) → wanted ≡ Some job → GrewByAtMost job.name before now → BeganAtMost wanted before now
-wanted_began wanted job before now e h = subst (λ w. BeganAtMost w before now) (sym e) h
+pub wanted_began : (wanted : Option PortsWanted) (ports : PortsWanted) (before now : List (List ℕ)) → wanted ≡ Some ports → BeganFirst ports.jobs before now → BeganAtMost wanted before now
+wanted_began wanted ports before now e h = subst (λ w. BeganAtMost w before now) (sym e) h
 
 -- what was stored before the lists were printed
 pub stored_of_ran : (tells : Bool) (runs : Runs) (words : List (List ℕ)) (tree before now : Contents) (begun_before begun_now : List (List ℕ)) (report : Report)
     → RanWanted tells runs words tree before now begun_before begun_now report → HasStoredWanted tells runs words tree before now
 stored_of_ran tells runs words tree before now begun_before begun_now report h = record {
-  job = h.job;
+  ports = h.ports;
   wanted = h.wanted;
-  kept = record { outcome = h.ran.outcome; build = h.ran.build; content = h.ran.content };
+  kept = record { outcomes = h.ran.outcomes; builds = h.ran.builds; content = h.ran.content };
 }
 
 -- where each refusal that an object tells is none, so is the first that is told
@@ -53,9 +43,12 @@ none_told false store_tells by_tree by_store t s = refl
 none_told true false by_tree by_store t s = ap (λ o. option_or o None) (t refl)
 none_told true true by_tree by_store t s = ap (λ o. option_or o by_store) (t refl) ∙ s refl
 
-pub one_begun_at_most : (name : List ℕ) (before now : List (List ℕ)) → GrewByAtMost name before now → GrewByOne before now
-one_begun_at_most name before now (inl e) = inl (name, e)
-one_begun_at_most name before now (inr e) = inr e
+-- no name was begun, or some
+pub none_grew : (before now : List (List ℕ)) → now ≡ before → GrewBySome before now
+none_grew before now e = ([], e ∙ sym (append-nil before))
+
+pub some_grew : (jobs : List JobView) (before now : List (List ℕ)) → BeganFirst jobs before now → GrewBySome before now
+some_grew jobs before now (count, e) = (names_of (take count jobs), e)
 
 room_number : (b : ℕ) → is_inner (RoomFault b) ≡ true → b ≡ 0
 room_number b h = eqb-true b 0 h

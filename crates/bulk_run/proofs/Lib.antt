@@ -9,8 +9,10 @@ pub mod TakenFiles
 pub mod Staged
 pub mod CutFiles
 pub mod PortName
-pub mod OneList
+pub mod PortEntries
+pub mod PortsText
 pub mod FoundPort
 pub mod FirstJob
 pub mod FileName
+pub mod PortsBuilt
 pub mod Ending

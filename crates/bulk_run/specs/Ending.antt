@@ -1,19 +1,23 @@
 -- What an answer says of the objects that were handed in.
-use Rattle.std.specs.Prelude.{◌≡◌, ℕ, ◌≤◌, ◌⊎◌, List, [], ◌∷◌, ◌++◌, Option, Some, None}
+use Rattle.std.specs.Prelude.{◌≡◌, ℕ, ◌≤◌, List, [], ◌∷◌, ◌++◌, take, Option, Some, None}
 use Rattle.outside.specs.Faults.{Rose}
-use Rattle.outside.specs.Outcomes.{GrewByAtMost}
 use Rattle.bulk_model.specs.Views.{JobView}
+use Rattle.bulk_run.specs.PortsWanted.{PortsWanted, names_of}
 use Rattle.bulk_run.specs.declared.answer.Answer.{Answer}
 use Rattle.bulk_run.specs.declared.answer.Answer.TheVariants.{Done, Usage, Builders, NotYet, NoOrigin, TreeFault, StoreFault, RoomFault, SinkFault, NoMemory}
 
--- one name was begun, or none
-abbrev pub GrewByOne : List (List ℕ) → List (List ℕ) → Type 0
-GrewByOne before now = ((name : List ℕ) × (now ≡ before ++ name ∷ [])) ⊎ (now ≡ before)
+-- some names were begun
+abbrev pub GrewBySome : List (List ℕ) → List (List ℕ) → Type 0
+GrewBySome before now = (names : List (List ℕ)) × (now ≡ before ++ names)
 
--- the name of the wanted port was begun, or none
-abbrev pub BeganAtMost : Option JobView → List (List ℕ) → List (List ℕ) → Type 0
+-- the names of some first jobs of a list were begun, in their order
+abbrev pub BeganFirst : List JobView → List (List ℕ) → List (List ℕ) → Type 0
+BeganFirst jobs before now = (count : ℕ) × (now ≡ before ++ names_of (take count jobs))
+
+-- the names of some first of the wanted ports were begun
+abbrev pub BeganAtMost : Option PortsWanted → List (List ℕ) → List (List ℕ) → Type 0
 BeganAtMost None before now = now ≡ before
-BeganAtMost (Some job) before now = GrewByAtMost job.name before now
+BeganAtMost (Some ports) before now = BeganFirst ports.jobs before now
 
 -- a fault is answered only where the count of that very object rose, and Done only where no count moved; the counts
 -- of the tree, the store, the room and the sink stand before and after, in this order

@@ -1,7 +1,7 @@
 -- The first path: one port from its file to its package, or the refusal that comes first (docs/DEFINITIONS.md).
 use Rattle.std.specs.Prelude.{◌≡◌, ℕ, ◌+◌, ◌-◌, Bool, not, ◌&&◌, ◌==◌, nat_lt, List, [], ◌∷◌, ◌++◌, length, take, drop, map, find, codes, Option, Some, None, is_some, unwrap_or, bytes_eq, if◌then◌else◌}
 use Rattle.std.specs.List.{list_any, before_first, after_first, starts_with}
-use Rattle.std.specs.Option.{option_map, option_map_or, option_or, option_and_then}
+use Rattle.std.specs.Option.{option_map, option_map_or, option_or}
 use Rattle.std.specs.FinMap.{get, keys, contains_key, insert}
 use Rattle.bulk_base.specs.Path.{joined, is_slash}
 use Rattle.bulk_base.specs.Names.{is_port_name}
@@ -145,7 +145,3 @@ told_refusal_over (room ∷ rooms) tree_tells store_tells words tree store = tol
 abbrev pub refusal_over : {R : Type 0} → List R → List (List ℕ) → Contents → Contents → Option Answer
 refusal_over [] words tree store = roomless_refusal words
 refusal_over (room ∷ rooms) words tree store = refusal words tree store
-
--- the job that a command asks for
-abbrev pub wanted_job : List (List ℕ) → Contents → Option JobView
-wanted_job words tree = option_and_then (first_job tree) (wanted_word words)

@@ -1,11 +1,12 @@
 pub mod PortFile
 pub mod FirstPath
-pub mod OnePlan
+pub mod PortsWanted
+pub mod PortsPlan
 pub mod AnswerLine
 pub mod Causes
 pub mod Decided
 pub mod RoomBuild
 pub mod PortTree
 pub mod Report
-pub mod PortRun
+pub mod PortsRun
 pub mod Ending

@@ -1,17 +1,19 @@
-// One port built, its package stored, and the text that says so.
-ghost use Rattle.std.specs.Prelude.{◌≡◌, ◌≤◌, ◌⊎◌, ◌++◌, [], ◌∷◌, true, false, IsTrue, IfOk, OnOk, OnErr};
+// Ports built, their packages stored, and the text that says so.
+ghost use Rattle.std.specs.Prelude.{◌≡◌, ◌≤◌, ◌⊎◌, ◌++◌, true, false, length, IsTrue, IfOk, OnOk, OnErr};
 ghost use Rattle.outside.specs.Changes.{IsUnchanged};
-ghost use Rattle.outside.specs.Outcomes.{GrewByAtMost};
 ghost use Rattle.bulk_run.specs.Causes.{IsCaused, err_is, is_refusal, blames_tree, blames_store, blames_room};
 ghost use Rattle.bulk_run.specs.Decided.{IsInner};
-ghost use Rattle.bulk_run.specs.Report.{stored};
-ghost use Rattle.bulk_run.specs.PortRun.{Reports, IsBuildOf, HasStored, RanPort};
+ghost use Rattle.bulk_run.specs.Report.{stored_all};
+ghost use Rattle.bulk_run.specs.PortsWanted.{names_of};
+ghost use Rattle.bulk_run.specs.PortsRun.{Reports, AreBuildsOf, HasStoredFirst, KeepsFirst, RanPorts};
+ghost use Rattle.bulk_run.specs.Ending.{BeganFirst};
 
 use crate::answer::Answer;
+use crate::decision::Decision;
+use crate::outcome_store::store_outcomes;
+use crate::port_builds::{Outcomes, build_ports};
 use crate::port_lists::{port_lists, setback};
-use crate::port_store::save;
-use crate::room_build::build;
-use bulk_model::{Job, Outcome};
+use bulk_model::{Job, Notice, Outcome};
 use outside::{Outer, Room, Store};
 use std::alloc::Global;
 
@@ -24,47 +26,50 @@ pub(crate) struct Report {
     pub(crate) text: Vec<u8>,
 }
 
-// Builds in the room.
-fn build_port<R: Room>(alloc: Global, room: &mut R, job: &Job) -> Result<Outcome, Answer>
-    ensures build { IfOk result (IsBuildOf R.Ways.tells R.Ways.runs job.now) }
+// Builds all ports in the room.
+fn build_all<R: Room>(alloc: Global, room: &mut R, jobs: &[Job]) -> Result<Outcomes, Answer>
+    ensures builds { IfOk result (AreBuildsOf R.Ways.tells R.Ways.runs jobs.now) }
     ensures cause { IsCaused (R.faults room.old) (R.faults room.new) (err_is blames_room result) }
     ensures tree { err_is blames_tree result ≡ false }
     ensures store { err_is blames_store result ≡ false }
     ensures inner { IsInner result }
     ensures refusal { err_is is_refusal result ≡ false }
-    ensures begun { OnOk result (R.begun room.new ≡ R.begun room.old ++ job.now.name ∷ []) }
-    ensures begun_err { OnErr result (GrewByAtMost job.now.name (R.begun room.old) (R.begun room.new)) }
+    ensures begun { OnOk result (R.begun room.new ≡ R.begun room.old ++ names_of jobs.now) }
+    ensures begun_err { OnErr result (BeganFirst jobs.now (R.begun room.old) (R.begun room.new)) }
 {
-    match build(alloc, room, job) {
-        Ok(outcome) => Ok(outcome),
+    match build_ports(alloc, room, jobs) {
+        Ok(outcomes) => Ok(outcomes),
         Err(Outer::Fault) => Err(Answer::RoomFault { builder: 0 }),
         Err(Outer::NoMemory) => Err(Answer::NoMemory),
     }
 }
 
-// Puts what was built into the store.
-fn store_outcome<S: Store>(alloc: Global, store: &mut S, outcome: &Outcome) -> Result<(), Answer>
-    ensures told { IsTrue S.tells → OnOk result (S.content store.new ≡ stored outcome.now (S.content store.old)) }
-    ensures left { IsTrue S.tells → OnErr result ((S.content store.new ≡ S.content store.old) ⊎ (S.content store.new ≡ stored outcome.now (S.content store.old))) }
+// Puts all that was built into the store.
+fn store_all<S: Store>(alloc: Global, store: &mut S, outcomes: &[Outcome]) -> Result<(), Answer>
+    ensures told { IsTrue S.tells → OnOk result (S.content store.new ≡ stored_all outcomes.now (S.content store.old)) }
+    ensures left { IsTrue S.tells → KeepsFirst outcomes.now (S.content store.old) (S.content store.new) }
     ensures cause { IsCaused (S.faults store.old) (S.faults store.new) (err_is blames_store result) }
     ensures tree { err_is blames_tree result ≡ false }
     ensures room { err_is blames_room result ≡ false }
     ensures inner { IsInner result }
     ensures refusal { err_is is_refusal result ≡ false }
 {
-    match outcome {
-        Outcome::Failed { .. } => Ok(()),
-        Outcome::Built(built) => match save(alloc, store, built.get()) {
-            Ok(()) => Ok(()),
-            Err(Outer::Fault) => Err(Answer::StoreFault),
-            Err(Outer::NoMemory) => Err(Answer::NoMemory),
-        },
+    match store_outcomes(alloc, store, outcomes) {
+        Ok(()) => Ok(()),
+        Err(Outer::Fault) => Err(Answer::StoreFault),
+        Err(Outer::NoMemory) => Err(Answer::NoMemory),
     }
 }
 
-// The lists of a run that built one port.
-fn port_report(alloc: Global, job: &Job, outcome: &Outcome) -> Result<Report, Answer>
-    ensures told { IfOk result (Reports job.now outcome.now) }
+// The lists of a run that built some ports.
+fn ports_report(
+    alloc: Global,
+    jobs: &[Job],
+    notices: &[Notice],
+    outcomes: &[Outcome],
+) -> Result<Report, Answer>
+    requires { length outcomes.now ≡ length jobs.now }
+    ensures told { IfOk result (Reports jobs.now notices.now outcomes.now) }
     ensures tree { err_is blames_tree result ≡ false }
     ensures store { err_is blames_store result ≡ false }
     ensures room { err_is blames_room result ≡ false }
@@ -72,38 +77,41 @@ fn port_report(alloc: Global, job: &Job, outcome: &Outcome) -> Result<Report, An
     ensures refusal { err_is is_refusal result ≡ false }
     ensures status { IfOk result (λ r. r.status ≤ 1) }
 {
-    match port_lists(alloc, job, outcome) {
+    match port_lists(alloc, jobs, notices, outcomes) {
         Ok(text) => Ok(Report {
-            status: setback(outcome),
+            status: setback(outcomes),
             text,
         }),
         Err(_) => Err(Answer::NoMemory),
     }
 }
 
-/// Builds one port in the room, stores its package and says so.
-pub(crate) fn run_port<S: Store, R: Room>(
+/// Builds ports in the room, one after another, then stores their packages and says so.
+///
+/// Nothing is put into the store before all of them are built.
+pub(crate) fn run_ports<S: Store, R: Room>(
     alloc: Global,
     store: &mut S,
     room: &mut R,
-    job: &Job,
+    ports: &Decision,
 ) -> Result<Report, Answer>
-    ensures whole { IsTrue S.tells → IfOk result (RanPort R.Ways.tells R.Ways.runs job.now (S.content store.old) (S.content store.new) (R.begun room.old) (R.begun room.new)) }
-    ensures left { IsTrue S.tells → (S.content store.new ≡ S.content store.old) ⊎ HasStored R.Ways.tells R.Ways.runs job.now (S.content store.old) (S.content store.new) }
+    ensures whole { IsTrue S.tells → IfOk result (RanPorts R.Ways.tells R.Ways.runs ports.now.jobs ports.now.notices (S.content store.old) (S.content store.new) (R.begun room.old) (R.begun room.new)) }
+    ensures left { IsTrue S.tells → (S.content store.new ≡ S.content store.old) ⊎ HasStoredFirst R.Ways.tells R.Ways.runs ports.now.jobs (S.content store.old) (S.content store.new) }
     ensures same { err_is blames_room result ≡ true → IsUnchanged (S.content store.old) (S.content store.new) (S.journal store.old) (S.journal store.new) }
     ensures tree { err_is blames_tree result ≡ false }
     ensures store { IsCaused (S.faults store.old) (S.faults store.new) (err_is blames_store result) }
     ensures room { IsCaused (R.faults room.old) (R.faults room.new) (err_is blames_room result) }
     ensures inner { IsInner result }
     ensures refusal { err_is is_refusal result ≡ false }
-    ensures begun { GrewByAtMost job.now.name (R.begun room.old) (R.begun room.new) }
+    ensures begun { BeganFirst ports.now.jobs (R.begun room.old) (R.begun room.new) }
     ensures status { IfOk result (λ r. r.status ≤ 1) }
 {
-    match build_port(alloc, room, job) {
+    let jobs = ports.jobs.as_slice();
+    match build_all(alloc, room, jobs) {
         Err(answer) => Err(answer),
-        Ok(outcome) => match store_outcome(alloc, store, &outcome) {
+        Ok(outcomes) => match store_all(alloc, store, outcomes.as_slice()) {
             Err(answer) => Err(answer),
-            Ok(()) => port_report(alloc, job, &outcome),
+            Ok(()) => ports_report(alloc, jobs, ports.notices.as_slice(), outcomes.as_slice()),
         },
     }
 }

@@ -6,6 +6,7 @@ use std::alloc::Global;
 use std::test;
 
 mod refusals;
+mod several;
 
 const GOOD: &str = "PORTNAME=x\nPORTVERSION=1.0\nDO_STAGE=cp work/hello stage/hello\n";
 

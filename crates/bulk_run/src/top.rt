@@ -3,15 +3,16 @@ ghost use Rattle.std.specs.Prelude.{◌≡◌, ◌≢◌, ◌≤◌, ◌<◌, �
 ghost use Rattle.outside.specs.Changes.{IsUnchanged};
 ghost use Rattle.outside.specs.Faults.{Rose};
 ghost use Rattle.bulk_run.specs.AnswerLine.{answer_line};
-ghost use Rattle.bulk_run.specs.Ending.{BeganAtMost, GrewByOne, IsBlamed, HaveNotRisen, IsStatusOf, faults_of_first, begun_in_first};
-ghost use Rattle.bulk_run.specs.PortRun.{HasStoredWanted, IsWhole, RanWanted};
+ghost use Rattle.bulk_run.specs.Ending.{BeganAtMost, GrewBySome, IsBlamed, HaveNotRisen, IsStatusOf, faults_of_first, begun_in_first};
+ghost use Rattle.bulk_run.specs.PortsRun.{HasStoredFirstWanted, HasStoredWanted, IsWhole, RanWanted};
 ghost use Rattle.bulk_run.specs.Causes.{IsCaused, err_is, leaves_rooms, leaves_store, blames_tree, blames_store, blames_room};
-ghost use Rattle.bulk_run.specs.FirstPath.{refusal, refusal_before_store, refusal_over, refusal_over_before_store, roomless_refusal, told_refusal, told_refusal_over, wanted_job, wanted_word};
+ghost use Rattle.bulk_run.specs.FirstPath.{refusal, refusal_before_store, refusal_over, refusal_over_before_store, roomless_refusal, told_refusal, told_refusal_over, wanted_word};
+ghost use Rattle.bulk_run.specs.PortsWanted.{wanted_ports};
 ghost use Rattle.bulk_run.specs.Decided.{AnswersRoomless, AnswersWords, AnswersWordsOver, IsInner, EndsAs, EndsInTree, RunEndsAs, RunEndsInTree};
 
 use crate::answer::{Answer, Closed, Finished};
 use crate::decision::{decide, is_command};
-use crate::port_run::{Report, run_port};
+use crate::port_run::{Report, run_ports};
 use crate::refusal::refuse;
 use bulk_base::Text;
 use outside::{Gate, Outer, Room, Sink, Store, Tree};
@@ -30,14 +31,14 @@ fn run<T: Tree, S: Store, R: Room>(
     ensures before_store { IsTrue T.tells → RunEndsInTree (refusal_before_store words.now (T.content tree.old)) result }
     ensures words { IfErr result (AnswersWords (wanted_word words.now)) }
     ensures whole { IsTrue T.tells → IsTrue S.tells → IfOk result (RanWanted R.Ways.tells R.Ways.runs words.now (T.content tree.old) (S.content store.old) (S.content store.new) (R.begun room.old) (R.begun room.new)) }
-    ensures left { IsTrue T.tells → IsTrue S.tells → (S.content store.new ≡ S.content store.old) ⊎ HasStoredWanted R.Ways.tells R.Ways.runs words.now (T.content tree.old) (S.content store.old) (S.content store.new) }
+    ensures left { IsTrue T.tells → IsTrue S.tells → (S.content store.new ≡ S.content store.old) ⊎ HasStoredFirstWanted R.Ways.tells R.Ways.runs words.now (T.content tree.old) (S.content store.old) (S.content store.new) }
     ensures unrefused { OnOk result (told_refusal T.tells S.tells words.now (T.content tree.old) (S.content store.old) ≡ None) }
     ensures tree { IsCaused (T.faults tree.old) (T.faults tree.new) (err_is blames_tree result) }
     ensures store { IsCaused (S.faults store.old) (S.faults store.new) (err_is blames_store result) }
     ensures room { IsCaused (R.faults room.old) (R.faults room.new) (err_is blames_room result) }
     ensures inner { IsInner result }
-    ensures begun { GrewByOne (R.begun room.old) (R.begun room.new) }
-    ensures name { IsTrue T.tells → BeganAtMost (wanted_job words.now (T.content tree.old)) (R.begun room.old) (R.begun room.new) }
+    ensures begun { GrewBySome (R.begun room.old) (R.begun room.new) }
+    ensures name { IsTrue T.tells → BeganAtMost (wanted_ports words.now (T.content tree.old)) (R.begun room.old) (R.begun room.new) }
     ensures same { err_is leaves_store result ≡ true → IsUnchanged (S.content store.old) (S.content store.new) (S.journal store.old) (S.journal store.new) }
     ensures idle { err_is leaves_rooms result ≡ true → R.begun room.new ≡ R.begun room.old }
     ensures kept { told_refusal T.tells S.tells words.now (T.content tree.old) (S.content store.old) ≢ None → IsUnchanged (S.content store.old) (S.content store.new) (S.journal store.old) (S.journal store.new) }
@@ -46,7 +47,7 @@ fn run<T: Tree, S: Store, R: Room>(
 {
     match decide(alloc, words, tree, store) {
         Err(answer) => Err(answer),
-        Ok(job) => run_port(alloc, store, room, &job),
+        Ok(ports) => run_ports(alloc, store, room, &ports),
     }
 }
 
@@ -66,13 +67,13 @@ pub fn bulk_alone<T: Tree, S: Store, R: Room, K: Sink>(
     ensures done { IsTrue T.tells → IsTrue S.tells → refusal words.now (T.content tree.old) (S.content store.old) ≡ None → result.answer ≢ Answer.NoMemory → HaveNotRisen (T.faults tree.old) (T.faults tree.new) (S.faults store.old) (S.faults store.new) (R.faults room.old) (R.faults room.new) (K.faults out.old) (K.faults out.new) → result.answer ≡ Answer.Done }
     ensures cause { IsBlamed result.answer (T.faults tree.old) (T.faults tree.new) (S.faults store.old) (S.faults store.new) (R.faults room.old) (R.faults room.new) (K.faults out.old) (K.faults out.new) }
     ensures status { IsStatusOf result.answer result.status }
-    ensures begun { GrewByOne (R.begun room.old) (R.begun room.new) }
-    ensures name { IsTrue T.tells → BeganAtMost (wanted_job words.now (T.content tree.old)) (R.begun room.old) (R.begun room.new) }
+    ensures begun { GrewBySome (R.begun room.old) (R.begun room.new) }
+    ensures name { IsTrue T.tells → BeganAtMost (wanted_ports words.now (T.content tree.old)) (R.begun room.old) (R.begun room.new) }
     ensures same { leaves_store result.answer ≡ true → IsUnchanged (S.content store.old) (S.content store.new) (S.journal store.old) (S.journal store.new) }
     ensures idle { leaves_rooms result.answer ≡ true → R.begun room.new ≡ R.begun room.old }
     ensures kept { told_refusal T.tells S.tells words.now (T.content tree.old) (S.content store.old) ≢ None → IsUnchanged (S.content store.old) (S.content store.new) (S.journal store.old) (S.journal store.new) }
     ensures still { told_refusal T.tells S.tells words.now (T.content tree.old) (S.content store.old) ≢ None → R.begun room.new ≡ R.begun room.old }
-    ensures left { IsTrue T.tells → IsTrue S.tells → (S.content store.new ≡ S.content store.old) ⊎ HasStoredWanted R.Ways.tells R.Ways.runs words.now (T.content tree.old) (S.content store.old) (S.content store.new) }
+    ensures left { IsTrue T.tells → IsTrue S.tells → (S.content store.new ≡ S.content store.old) ⊎ HasStoredFirstWanted R.Ways.tells R.Ways.runs words.now (T.content tree.old) (S.content store.old) (S.content store.new) }
     ensures finished { IsTrue T.tells → IsTrue S.tells → result.answer ≡ Answer.SinkFault → HasStoredWanted R.Ways.tells R.Ways.runs words.now (T.content tree.old) (S.content store.old) (S.content store.new) }
     ensures line { IsTrue K.tells → result.answer ≢ Answer.Done → result.answer ≢ Answer.NoMemory → (Rose (K.faults out.old) (K.faults out.new) → ⊥) → K.written out.new ≡ K.written out.old ++ answer_line result.answer }
 {
@@ -138,12 +139,12 @@ where
     ensures idle { leaves_rooms result.answer ≡ true → begun_in_first R.begun result.rooms.items ≡ begun_in_first R.begun rooms.items }
     ensures kept { told_refusal_over rooms.items T.tells S.tells words.now (T.content tree.old) (S.content store) ≢ None → IsUnchanged (S.content store) (S.content result.store) (S.journal store) (S.journal result.store) }
     ensures still { told_refusal_over rooms.items T.tells S.tells words.now (T.content tree.old) (S.content store) ≢ None → begun_in_first R.begun result.rooms.items ≡ begun_in_first R.begun rooms.items }
-    ensures left { IsTrue T.tells → IsTrue S.tells → (S.content result.store ≡ S.content store) ⊎ HasStoredWanted R.Ways.tells R.Ways.runs words.now (T.content tree.old) (S.content store) (S.content result.store) }
+    ensures left { IsTrue T.tells → IsTrue S.tells → (S.content result.store ≡ S.content store) ⊎ HasStoredFirstWanted R.Ways.tells R.Ways.runs words.now (T.content tree.old) (S.content store) (S.content result.store) }
     ensures finished { IsTrue T.tells → IsTrue S.tells → result.answer ≡ Answer.SinkFault → HasStoredWanted R.Ways.tells R.Ways.runs words.now (T.content tree.old) (S.content store) (S.content result.store) }
     ensures cause { IsBlamed result.answer (T.faults tree.old) (T.faults tree.new) (S.faults store) (S.faults result.store) (faults_of_first R.faults rooms.items) (faults_of_first R.faults result.rooms.items) (K.faults out.old) (K.faults out.new) }
     ensures status { IsStatusOf result.answer result.status }
-    ensures begun { GrewByOne (begun_in_first R.begun rooms.items) (begun_in_first R.begun result.rooms.items) }
-    ensures name { IsTrue T.tells → BeganAtMost (wanted_job words.now (T.content tree.old)) (begun_in_first R.begun rooms.items) (begun_in_first R.begun result.rooms.items) }
+    ensures begun { GrewBySome (begun_in_first R.begun rooms.items) (begun_in_first R.begun result.rooms.items) }
+    ensures name { IsTrue T.tells → BeganAtMost (wanted_ports words.now (T.content tree.old)) (begun_in_first R.begun rooms.items) (begun_in_first R.begun result.rooms.items) }
     ensures rooms { vec_len result.rooms ≡ vec_len rooms }
     ensures others { drop 1 result.rooms.items ≡ drop 1 rooms.items }
     ensures line { IsTrue K.tells → result.answer ≢ Answer.Done → result.answer ≢ Answer.NoMemory → (Rose (K.faults out.old) (K.faults out.new) → ⊥) → K.written out.new ≡ K.written out.old ++ answer_line result.answer }

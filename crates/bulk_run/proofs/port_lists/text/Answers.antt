@@ -1,12 +1,13 @@
-use Rattle.std.proofs.Common.{ap}
-use Rattle.bulk_run.proofs.OneList.{built_lists, failed_lists}
+use Rattle.std.proofs.Common.{◌∙◌, ap, map, codes, refl}
+use Rattle.std.specs.String.{string_bytes}
+use Rattle.bulk_model.specs.Lists.{listed}
+use Rattle.bulk_run.proofs.PortsText.{printed}
 use Rattle.bulk_run.proofs.port_lists.text.Goals as goal
-
-pub returns-in-Built : goal.returns-in-Built
-returns-in-Built c =
-    rw c.in-Built.is (built_lists c.args.job.now c.in-Built.field-0 _ _ c.job.inside.name c.in_ok-node.ensures (ap (λ j. j.name) c.job.view_is) c.in_ok-format-in-Built.ensures.ok)
 
 pub returns : goal.returns
 returns c =
-    rw c.in-Failed.is (failed_lists c.args.job.now c.in-Failed.phase c.in-Failed.code _ _ c.job.inside.name c.phase_word-phase.result.now
-    c.in_ok-node.ensures (ap (λ j. j.name) c.job.view_is) c.phase_word-phase.ensures c.in_ok-format-in-Failed.ensures.ok)
+    printed c.args.jobs.now c.args.notices.now c.args.outcomes.now (string_bytes c.in_ok-format.field-0) (string_bytes c.in_ok-moved.moved) (string_bytes c.in_ok-built-2.built) (string_bytes c.in_ok-failed-2.failed) _
+    c.requires c.in_ok-moved.ensures
+    (c.in_ok-built-2.ensures ∙ ap (λ items. listed (codes "built") (map string_bytes items)) c.as_slice.ensures.value ∙ ap (listed (codes "built")) c.in_ok-built.ensures)
+    (c.in_ok-failed-2.ensures ∙ ap (λ items. listed (codes "failed") (map string_bytes items)) c.as_slice-2.ensures.value ∙ ap (listed (codes "failed")) c.in_ok-failed.ensures)
+    refl c.in_ok-format.ensures.ok
