@@ -1,10 +1,9 @@
 -- How a run ends: what was begun, what was stored, and whom the answer blames.
-use Rattle.std.proofs.Common.{◌≡◌, ℕ, ◌≤◌, Bool, true, false, List, [], ◌∷◌, ◌++◌, ◌∙◌, ap, sym, subst, refl, inl, inr}
+use Rattle.std.proofs.Common.{◌≡◌, ℕ, Bool, true, false, List, [], ◌∷◌, ◌∙◌, ap, sym, subst, refl, inl, inr}
 use Rattle.std.specs.Prelude.{◌⊎◌, Option, Some, None, Result, Ok, Err, unwrap_or, if◌then◌else◌, get_or, length, set, take, IfErr}
 use Rattle.std.proofs.lemmas.List.{append-nil}
 use Rattle.std.specs.Option.{is_some, option_map_or, option_or}
 use Rattle.outside.specs.Contents.{Contents}
-use Rattle.outside.specs.Faults.{Rose}
 use Rattle.bulk_run.specs.declared.answer.Answer.{Answer}
 use Rattle.bulk_run.specs.declared.answer.Answer.TheVariants.{Done, Usage, Builders, NotYet, NoOrigin, TreeFault, StoreFault, RoomFault, SinkFault, NoMemory}
 use Rattle.bulk_model.specs.Bake.{Runs}

@@ -1,13 +1,9 @@
 -- The job of a port in the first form is in form.
-use Rattle.std.proofs.Common.{◌≡◌, ℕ, true, List, [], length, ◌∙◌, sym, ap, subst, arith, refl}
+use Rattle.std.proofs.Common.{◌≡◌, ℕ, true, List, [], sym, subst, refl}
 use Rattle.std.specs.Prelude.{Option, None, IsTrue, IfSome}
-use Rattle.std.specs.List.{before_first, after_first}
-use Rattle.bulk_base.specs.Path.{is_slash}
-use Rattle.bulk_base.specs.Names.{IsOrigin, IsPackageName, is_port_name, origin_of, is_flavor}
-use Rattle.bulk_base.specs.declared.file.FileItem.{FileItem}
+use Rattle.bulk_base.specs.Names.{IsOrigin, IsPackageName, is_flavor}
 use Rattle.bulk_base.specs.declared.file.Switch.{Switch}
 use Rattle.bulk_model.specs.declared.depend.Depend.{Depend}
-use Rattle.bulk_model.specs.declared.steps.Steps.{Steps}
 use Rattle.bulk_model.specs.Facts.{IsJob, IsOptionList, IsDependList, IsFileList}
 use Rattle.bulk_model.specs.Views.{JobView}
 use Rattle.std.specs.List.Sorted.{IsStrictlySortedBy}

@@ -1,6 +1,6 @@
 -- From what the tree said of a port's description and files to the port's refusal or job.
-use Rattle.std.proofs.Common.{◌≡◌, ℕ, ◌+◌, ◌<◌, ◌≤◌, Bool, true, false, List, [], length, take, arith, ◌∙◌, sym, ap, refl, inl, inr}
-use Rattle.std.specs.Prelude.{Option, Some, None, unwrap_or, is_some, cond, not, ◌&&◌, ◌==◌, nat_le, ◌-◌, slice_index, ◌⊎◌}
+use Rattle.std.proofs.Common.{◌≡◌, ℕ, ◌<◌, Bool, true, false, List, [], length, take, arith, ◌∙◌, sym, ap, refl, inl, inr}
+use Rattle.std.specs.Prelude.{Option, Some, None, unwrap_or, is_some, cond, ◌&&◌, ◌==◌, nat_le, ◌-◌, slice_index}
 use Rattle.std.specs.Option.{option_map}
 use Rattle.std.specs.List.{list_all}
 use Rattle.std.specs.Str.Lines.{lines}
@@ -8,12 +8,10 @@ use Rattle.std.specs.FinMap.{get}
 use Rattle.std.proofs.lemmas.List.{length-take, take_all}
 use Rattle.std.proofs.lemmas.Bool.{cases_lt}
 use Rattle.std.proofs.lemmas.Bool.Decides.{nat_tests}
-use Rattle.bulk_base.specs.declared.file.FileItem.{FileItem}
 use Rattle.outside.specs.Contents.{Contents}
-use Rattle.bulk_model.specs.Views.{JobView}
 use Rattle.bulk_model.specs.Files.{files_in}
 use Rattle.bulk_run.specs.PortFile.{PortFile, read_port_file, is_form_byte, are_settings, port_file_of}
-use Rattle.bulk_run.specs.FirstPath.{refusal_by_file, refusal_by_port, is_origin_word, port_vars, files_folder, large_file, first_job, job_of}
+use Rattle.bulk_run.specs.FirstPath.{refusal_by_file, refusal_by_port, is_origin_word, port_vars, files_folder, job_of}
 use Rattle.bulk_run.specs.PortTree.{IsFoundInFiles, IsFoundByPort}
 use Rattle.bulk_run.specs.declared.answer.Answer.{Answer}
 use Rattle.bulk_run.specs.declared.answer.Answer.TheVariants.{NotYet, NoOrigin}

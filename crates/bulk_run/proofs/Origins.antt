@@ -1,17 +1,16 @@
 -- An origin is a path.
-use Rattle.std.proofs.Common.{◌≡◌, ℕ, ◌+◌, ◌<◌, ◌≤◌, Bool, true, false, List, [], ◌∷◌, ◌++◌, length, get_or, take, drop, arith, ◌∙◌, sym, ap, refl, zero, suc}
-use Rattle.std.specs.Prelude.{cond, ◌&&◌, not, Option, Some, None, unwrap_or, bytes_eq}
-use Rattle.std.specs.List.{slice_split, list_all, before_first, after_first, position_or_len, All}
+use Rattle.std.proofs.Common.{◌≡◌, ℕ, ◌+◌, ◌<◌, ◌≤◌, true, false, List, [], ◌∷◌, ◌++◌, length, get_or, arith, ◌∙◌, sym, ap, zero, suc}
+use Rattle.std.specs.Prelude.{◌&&◌}
+use Rattle.std.specs.List.{list_all, before_first, after_first, position_or_len, All}
 use Rattle.std.proofs.lemmas.List.{length-append, drop_all}
 use Rattle.std.proofs.lemmas.List.Splits.{slice_split_none, slice_split_first}
 use Rattle.std.proofs.lemmas.List.Sums.{split_at_first, passes_at_first}
 use Rattle.std.proofs.lemmas.Bool.Decides.{nat_tests}
 use Rattle.std.proofs.lemmas.Bool.{cases_lt, and_parts, eqb-true}
 use mathlib.Core.Bool.{true≢false}
-use Rattle.std.specs.Prelude.{◌⊎◌}
 use Rattle.std.proofs.Common.{inl, inr}
 use Rattle.bulk_base.specs.Path.{is_slash, parts, is_part, is_path, joined}
-use Rattle.bulk_base.specs.Names.{is_port_name, is_port_byte, is_alphanumeric, IsOrigin}
+use Rattle.bulk_base.specs.Names.{is_port_name, is_port_byte, IsOrigin}
 use Rattle.bulk_run.specs.FirstPath.{is_origin_word}
 
 port_byte_no_slash : (b : ℕ) → is_port_byte b ≡ true → is_slash b ≡ false

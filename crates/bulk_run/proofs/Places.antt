@@ -1,5 +1,5 @@
 -- The place of the first element that passes, or the length.
-use Rattle.std.proofs.Common.{◌≡◌, ℕ, ◌<◌, ◌≤◌, Bool, true, false, List, length, arith, ◌∙◌, ap, ltb, refl}
+use Rattle.std.proofs.Common.{◌≡◌, ℕ, ◌≤◌, Bool, true, false, List, length, arith, ◌∙◌, ap, ltb, refl}
 use Rattle.std.specs.Prelude.{cond, Option, Some, None, unwrap_or, not}
 use Rattle.std.specs.List.{position_or_len}
 use Rattle.std.proofs.lemmas.List.Sums.{prefix_len-le-length}

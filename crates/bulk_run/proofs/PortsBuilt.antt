@@ -1,8 +1,8 @@
 -- What is built, begun and stored after some ports of a list.
-use Rattle.std.proofs.Common.{◌≡◌, ℕ, zero, suc, ◌+◌, ◌<◌, ◌≤◌, Bool, List, [], ◌∷◌, ◌++◌, ◌∙◌, ap, sym, subst, refl, inl, inr, length, take, get_or, map, arith}
+use Rattle.std.proofs.Common.{◌≡◌, ℕ, zero, suc, ◌+◌, ◌<◌, ◌≤◌, Bool, List, [], ◌∷◌, ◌++◌, ◌∙◌, ap, sym, subst, refl, inl, inr, length, take, get_or, arith}
 use Rattle.std.specs.Prelude.{◌⊎◌, Result, Ok, Err, OnOk, OnErr}
 use Rattle.std.specs.List.{AllZip}
-use Rattle.std.proofs.lemmas.List.{append-nil, append_assoc, map-append, take_all, take_more}
+use Rattle.std.proofs.lemmas.List.{append_assoc, map-append, take_all, take_more}
 use Rattle.std.proofs.lemmas.Slice.Zip.{all_zipped_more}
 use Rattle.outside.specs.Changes.{Made, changed}
 use Rattle.outside.specs.Contents.{Contents}

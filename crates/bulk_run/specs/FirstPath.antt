@@ -1,14 +1,14 @@
 -- The first path: one port from its file to its package, or the refusal that comes first (docs/DEFINITIONS.md).
-use Rattle.std.specs.Prelude.{◌≡◌, ℕ, ◌+◌, ◌-◌, Bool, not, ◌&&◌, ◌==◌, nat_lt, List, [], ◌∷◌, ◌++◌, length, take, drop, map, find, codes, Option, Some, None, is_some, unwrap_or, bytes_eq, if◌then◌else◌}
-use Rattle.std.specs.List.{list_any, before_first, after_first, starts_with}
+use Rattle.std.specs.Prelude.{ℕ, ◌-◌, Bool, ◌&&◌, ◌==◌, nat_lt, List, [], ◌∷◌, ◌++◌, length, drop, find, codes, Option, Some, None, unwrap_or, bytes_eq, if◌then◌else◌}
+use Rattle.std.specs.List.{before_first, after_first}
 use Rattle.std.specs.Option.{option_map, option_map_or, option_or}
-use Rattle.std.specs.FinMap.{get, keys, contains_key, insert}
+use Rattle.std.specs.FinMap.{get, keys, contains_key}
 use Rattle.bulk_base.specs.Path.{joined, is_slash}
 use Rattle.bulk_base.specs.Names.{is_port_name}
 use Rattle.bulk_base.specs.Words.{words_of}
 use Rattle.bulk_base.specs.declared.file.FileItem.{FileItem}
 use Rattle.outside.specs.Contents.{Contents, files_below}
-use Rattle.bulk_model.specs.Views.{JobView, PackageView}
+use Rattle.bulk_model.specs.Views.{JobView}
 use Rattle.bulk_model.specs.Files.{files_in}
 use Rattle.bulk_run.specs.PortFile.{PortFile, read_port_file}
 use Rattle.bulk_run.specs.declared.answer.Answer.{Answer}

@@ -1,11 +1,9 @@
 -- What the tree says of a port's files, one after another (docs/DEFINITIONS.md).
-use Rattle.std.specs.Prelude.{◌≡◌, ℕ, Bool, true, false, List, [], length, nat_lt, find, Option, Some, None, unwrap_or}
-use Rattle.std.specs.FinMap.{get}
+use Rattle.std.specs.Prelude.{◌≡◌, ℕ, true, false, List, find, Option, Some, None}
 use Rattle.bulk_base.specs.declared.file.FileItem.{FileItem}
 use Rattle.outside.specs.Contents.{Contents, files_below}
 use Rattle.bulk_model.specs.Files.{file_at, files_in}
 use Rattle.bulk_model.specs.Facts.{IsFileList}
-use Rattle.bulk_model.specs.Views.{JobView}
 use Rattle.std.specs.Option.{option_map}
 use Rattle.bulk_run.specs.PortFile.{PortFile}
 use Rattle.bulk_run.specs.FirstPath.{is_large, large_file, files_folder, job_of, refusal_by_port, tree_refusal, first_job}

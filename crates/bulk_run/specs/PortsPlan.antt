@@ -1,5 +1,5 @@
 -- The plan of ports without dependencies.
-use Rattle.std.specs.Prelude.{ℕ, List, [], length, map, Option, None}
+use Rattle.std.specs.Prelude.{List, [], length, map, None}
 use Rattle.std.specs.List.{range_with_len}
 use Rattle.bulk_model.specs.PlanView.{PlanView}
 use Rattle.bulk_model.specs.Views.{JobView}

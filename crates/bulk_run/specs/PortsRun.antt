@@ -1,5 +1,5 @@
 -- What building some ports and storing their packages leave.
-use Rattle.std.specs.Prelude.{◌≡◌, ℕ, Bool, IsTrue, List, [], ◌++◌, take, Option, Some}
+use Rattle.std.specs.Prelude.{◌≡◌, ℕ, Bool, IsTrue, List, [], ◌++◌, take, Some}
 use Rattle.std.specs.List.{AllZip}
 use Rattle.outside.specs.Contents.{Contents}
 use Rattle.bulk_model.specs.declared.outcome.Outcome.{Outcome}

@@ -1,4 +1,4 @@
-use Rattle.std.proofs.Common.{◌≡◌, ◌∙◌, ap, sym}
+use Rattle.std.proofs.Common.{◌∙◌, ap, sym}
 use Rattle.std.specs.FinMap.{insert}
 use Rattle.bulk_model.specs.Sound.{package_file}
 use Rattle.bulk_model.specs.Spelling.{spelling}

@@ -1,4 +1,4 @@
-use Rattle.std.proofs.Common.{◌≡◌, ◌∙◌}
+use Rattle.std.proofs.Common.{◌∙◌}
 use Rattle.bulk_run.proofs.PortsBuilt.{stored_more, kept_more}
 use Rattle.bulk_run.proofs.outcome_store.store_outcomes.Goals as goal
 

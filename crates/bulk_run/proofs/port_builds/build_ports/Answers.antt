@@ -1,4 +1,4 @@
-use Rattle.std.proofs.Common.{◌≡◌, ◌∙◌, inl, refl}
+use Rattle.std.proofs.Common.{◌∙◌, inl}
 use Rattle.bulk_run.proofs.PortsBuilt.{in_error, builds_more, names_more, began_more}
 use Rattle.bulk_run.proofs.port_builds.build_ports.Goals as goal
 

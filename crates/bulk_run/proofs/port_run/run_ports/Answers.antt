@@ -1,4 +1,4 @@
-use Rattle.std.proofs.Common.{◌≡◌, ◌++◌, ◌∙◌, ap, inr, length}
+use Rattle.std.proofs.Common.{◌++◌, ◌∙◌, ap, inr, length}
 use Rattle.std.proofs.lemmas.Slice.Zip.{AllZip-long}
 use Rattle.bulk_run.specs.PortsRun.{IsBuildOf}
 use Rattle.bulk_run.specs.PortsWanted.{names_of}

@@ -1,4 +1,4 @@
-use Rattle.std.proofs.Common.{◌≡◌, ◌++◌, ◌∙◌, ap, ap₂, codes, refl}
+use Rattle.std.proofs.Common.{◌++◌, ◌∙◌, ap, ap₂, codes, refl}
 use Rattle.bulk_base.specs.Text.{is_text}
 use Rattle.bulk_run.proofs.FileName.{is_text-append_plain}
 use Rattle.bulk_run.proofs.port_store.file_name.Goals as goal

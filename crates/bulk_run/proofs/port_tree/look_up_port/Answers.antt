@@ -1,9 +1,9 @@
 use Rattle.std.proofs.Common.{◌≡◌, ◌∙◌, ap, sym, subst, true}
-use Rattle.std.specs.Prelude.{Some, None, Option}
+use Rattle.std.specs.Prelude.{Some}
 use Rattle.std.specs.Option.{option_map}
 use Rattle.std.specs.FinMap.{get}
 use Rattle.std.proofs.lemmas.Result.{IfOk-weaker}
-use Rattle.bulk_run.specs.PortFile.{PortFile, read_port_file}
+use Rattle.bulk_run.specs.PortFile.{read_port_file}
 use Rattle.bulk_run.specs.FirstPath.{is_origin_word}
 use Rattle.bulk_run.specs.PortTree.{IsFoundInFiles, IsFoundByPort}
 use Rattle.bulk_run.proofs.FoundPort.{by_files}

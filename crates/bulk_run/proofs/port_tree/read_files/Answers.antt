@@ -1,5 +1,5 @@
-use Rattle.std.proofs.Common.{◌≡◌, ◌∙◌, ap, sym, refl, codes, length, take, true, ◌≤◌, arith}
-use Rattle.std.specs.Prelude.{nat_le, find, Some, None}
+use Rattle.std.proofs.Common.{◌≡◌, ◌∙◌, ap, refl, length, ◌≤◌}
+use Rattle.std.specs.Prelude.{nat_le}
 use Rattle.std.specs.List.{list_all}
 use Rattle.bulk_model.specs.Facts.{paths_of}
 use Rattle.bulk_model.specs.Files.{file_at}

@@ -1,4 +1,4 @@
-use Rattle.std.proofs.Common.{rules, ◌≡◌, ap, sym, refl, ◌∙◌}
+use Rattle.std.proofs.Common.{sym, refl, ◌∙◌}
 use Rattle.std.proofs.lemmas.Bool.{eqb-false}
 use Rattle.bulk_run.proofs.Ending.{first_begun, first_begun_after, none_grew}
 use Rattle.bulk_run.proofs.top.poudriere.Goals as goal

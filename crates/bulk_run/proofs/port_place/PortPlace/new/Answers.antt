@@ -1,5 +1,4 @@
-use Rattle.std.proofs.Common.{◌≡◌, ℕ, length, ◌∙◌, ap, sym, arith, rules}
-use Rattle.std.proofs.lemmas.List.{length-append}
+use Rattle.std.proofs.Common.{length, ap, arith}
 use Rattle.bulk_run.proofs.Origins.{origin_is_path, length-joined}
 use Rattle.bulk_run.proofs.port_place.PortPlace.new.Goals as goal
 
