@@ -1,7 +1,8 @@
 -- How a run ends: what was begun, what was stored, and whom the answer blames.
-use Rattle.std.proofs.Common.{◌≡◌, ℕ, Bool, true, false, List, [], ◌∷◌, ◌∙◌, ap, sym, subst, refl, inl, inr}
-use Rattle.std.specs.Prelude.{◌⊎◌, Option, Some, None, Result, Ok, Err, unwrap_or, if◌then◌else◌, get_or, length, set, take, IfErr}
-use Rattle.std.proofs.lemmas.List.{append-nil}
+use Rattle.std.proofs.Common.{◌≡◌, ℕ, Bool, true, false, List, [], ◌∷◌, ◌++◌, ◌∙◌, ap, sym, subst, refl, inl, inr}
+use Rattle.std.specs.Prelude.{◌⊎◌, Option, Some, None, Result, Ok, Err, unwrap_or, if◌then◌else◌, get_or, length, set, take, bytes_eq, IfErr}
+use Rattle.std.specs.List.{IsDistinct}
+use Rattle.std.proofs.lemmas.List.{append-nil, take-map}
 use Rattle.std.specs.Option.{is_some, option_map_or, option_or}
 use Rattle.outside.specs.Contents.{Contents}
 use Rattle.bulk_run.specs.declared.answer.Answer.{Answer}
@@ -13,7 +14,7 @@ use Rattle.bulk_run.specs.Causes.{IsCaused, err_is, is_refusal, leaves_rooms, le
 use Rattle.bulk_run.specs.Decided.{is_inner, is_of_tree, is_of_words, AnswersWords, EndsAs, EndsInTree}
 use Rattle.bulk_run.specs.PortsWanted.{PortsWanted, names_of}
 use Rattle.bulk_run.specs.PortsRun.{HasStoredWanted, RanWanted}
-use Rattle.bulk_run.specs.Ending.{BeganAtMost, BeganFirst, GrewBySome, IsBlamed, HaveNotRisen, IsStatusOf, begun_in_first}
+use Rattle.bulk_run.specs.Ending.{BeganAtMost, BeganFirst, BeganOnce, IsBlamed, HaveNotRisen, IsStatusOf, begun_in_first}
 use Rattle.bulk_run.specs.AnswerLine.{answer_status}
 use mathlib.Core.Bool.{true≢false}
 use Rattle.std.proofs.lemmas.Bool.{eqb-true}
@@ -42,12 +43,24 @@ none_told false store_tells by_tree by_store t s = refl
 none_told true false by_tree by_store t s = ap (λ o. option_or o None) (t refl)
 none_told true true by_tree by_store t s = ap (λ o. option_or o by_store) (t refl) ∙ s refl
 
--- no name was begun, or some
-pub none_grew : (before now : List (List ℕ)) → now ≡ before → GrewBySome before now
-none_grew before now e = ([], e ∙ sym (append-nil before))
+none_twice : IsDistinct bytes_eq []
+unfolding IsDistinct
+none_twice = tt
 
-pub some_grew : (jobs : List JobView) (before now : List (List ℕ)) → BeganFirst jobs before now → GrewBySome before now
-some_grew jobs before now (count, e) = (names_of (take count jobs), e)
+one_name : (name : List ℕ) → IsDistinct bytes_eq (name ∷ [])
+unfolding IsDistinct
+one_name name = (tt, tt)
+
+-- one job has one name
+pub one_once : (jobs : List JobView) (job : JobView) → jobs ≡ job ∷ [] → IsDistinct bytes_eq (names_of jobs)
+one_once jobs job e = subst (λ jobs. IsDistinct bytes_eq (names_of jobs)) (sym e) (one_name job.name)
+
+-- no name was begun, or those of some first of the jobs
+pub none_grew : (before now : List (List ℕ)) → now ≡ before → BeganOnce before now
+none_grew before now e = record { names = []; once = none_twice; count = 0; begun = e ∙ sym (append-nil before) }
+
+pub some_grew : (jobs : List JobView) (before now : List (List ℕ)) → IsDistinct bytes_eq (names_of jobs) → BeganFirst jobs before now → BeganOnce before now
+some_grew jobs before now once (count, e) = record { names = names_of jobs; once = once; count = count; begun = e ∙ ap (λ names. before ++ names) (sym (take-map (λ job. job.name) count jobs)) }
 
 room_number : (b : ℕ) → is_inner (RoomFault b) ≡ true → b ≡ 0
 room_number b h = eqb-true b 0 h

@@ -1,14 +1,18 @@
 -- What an answer says of the objects that were handed in.
-use Rattle.std.specs.Prelude.{◌≡◌, ℕ, ◌≤◌, List, [], ◌∷◌, ◌++◌, take, Option, Some, None}
+use Rattle.std.specs.Prelude.{◌≡◌, ℕ, ◌≤◌, List, [], ◌∷◌, ◌++◌, take, bytes_eq, Option, Some, None}
+use Rattle.std.specs.List.{IsDistinct}
 use Rattle.outside.specs.Faults.{Rose}
 use Rattle.bulk_model.specs.Views.{JobView}
 use Rattle.bulk_run.specs.PortsWanted.{PortsWanted, names_of}
 use Rattle.bulk_run.specs.declared.answer.Answer.{Answer}
 use Rattle.bulk_run.specs.declared.answer.Answer.TheVariants.{Done, Usage, Builders, NotYet, NoOrigin, TreeFault, StoreFault, RoomFault, SinkFault, NoMemory}
 
--- some names were begun
-abbrev pub GrewBySome : List (List ℕ) → List (List ℕ) → Type 0
-GrewBySome before now = (names : List (List ℕ)) × (now ≡ before ++ names)
+-- some first of a list of names were begun, which names each package once
+pub record BeganOnce (before now : List (List ℕ)) : Type 0 where
+  pub names : List (List ℕ)
+  pub once : IsDistinct bytes_eq names
+  pub count : ℕ
+  pub begun : now ≡ before ++ take count names
 
 -- the names of some first jobs of a list were begun, in their order
 abbrev pub BeganFirst : List JobView → List (List ℕ) → List (List ℕ) → Type 0

@@ -1,9 +1,10 @@
 // What a command asks for: the first refusal, or the ports to be built.
-ghost use Rattle.std.specs.Prelude.{◌≡◌, [], ◌∷◌, Some, None, false, is_some, IsTrue, IfOk, OnOk, IfErr};
+ghost use Rattle.std.specs.Prelude.{◌≡◌, [], ◌∷◌, Some, None, false, is_some, bytes_eq, IsTrue, IfOk, OnOk, IfErr};
+ghost use Rattle.std.specs.List.{IsDistinct};
 ghost use Rattle.std.specs.Option.{option_copied, option_map};
 ghost use Rattle.outside.specs.Changes.{IsUnchanged};
 ghost use Rattle.bulk_run.specs.FirstPath.{wanted_word as word_of, refusal, refusal_before_store, told_refusal, tree_refusal, store_refusal, first_job};
-ghost use Rattle.bulk_run.specs.PortsWanted.{one_port as one_wanted, wanted_ports};
+ghost use Rattle.bulk_run.specs.PortsWanted.{names_of, one_port as one_wanted, wanted_ports};
 ghost use Rattle.bulk_run.specs.Causes.{IsCaused, err_is, blames_tree, blames_store, blames_room};
 ghost use Rattle.bulk_run.specs.Decided.{AnswersWords, Decides, IsInner, RunEndsInTree, is_of_tree, is_of_words};
 
@@ -50,6 +51,7 @@ pub(crate) fn is_command(words: &[Text]) -> bool
 // One port, and no notice.
 fn one_port(alloc: Global, job: Job) -> Result<Decision, NoMemory>
     ensures jobs { IfOk result (λ ports. ports.jobs ≡ job ∷ []) }
+    ensures once { IfOk result (λ ports. IsDistinct bytes_eq (names_of ports.jobs)) }
     ensures notices { IfOk result (λ ports. ports.notices ≡ []) }
 {
     let mut jobs = Sequence::new(alloc);
@@ -66,6 +68,7 @@ fn find_ports<T: Tree>(alloc: Global, tree: &mut T, word: &Text) -> Result<Decis
     ensures before_store { IsTrue T.tells → RunEndsInTree (tree_refusal (T.content tree.old) word.now) result }
     ensures words { err_is is_of_words result ≡ false }
     ensures ports { IsTrue T.tells → IfOk result (λ ports. option_map one_wanted (first_job (T.content tree.old) word.now) ≡ Some (record { jobs = ports.jobs; notices = ports.notices })) }
+    ensures once { IfOk result (λ ports. IsDistinct bytes_eq (names_of ports.jobs)) }
     ensures cause { IsCaused (T.faults tree.old) (T.faults tree.new) (err_is blames_tree result) }
     ensures store { err_is blames_store result ≡ false }
     ensures room { err_is blames_room result ≡ false }
@@ -114,6 +117,7 @@ pub(crate) fn decide<T: Tree, S: Store>(
     ensures words { IfErr result (AnswersWords (word_of words.now)) }
     ensures unrefused { OnOk result (told_refusal T.tells S.tells words.now (T.content tree.old) (S.content store.old) ≡ None) }
     ensures ports { IsTrue T.tells → IfOk result (λ ports. wanted_ports words.now (T.content tree.old) ≡ Some (record { jobs = ports.jobs; notices = ports.notices })) }
+    ensures once { IfOk result (λ ports. IsDistinct bytes_eq (names_of ports.jobs)) }
     ensures tree { IsCaused (T.faults tree.old) (T.faults tree.new) (err_is blames_tree result) }
     ensures store { IsCaused (S.faults store.old) (S.faults store.new) (err_is blames_store result) }
     ensures room { err_is blames_room result ≡ false }

@@ -3,7 +3,7 @@ ghost use Rattle.std.specs.Prelude.{◌≡◌, ◌≢◌, ◌≤◌, ◌<◌, �
 ghost use Rattle.outside.specs.Changes.{IsUnchanged};
 ghost use Rattle.outside.specs.Faults.{Rose};
 ghost use Rattle.bulk_run.specs.AnswerLine.{answer_line};
-ghost use Rattle.bulk_run.specs.Ending.{BeganAtMost, GrewBySome, IsBlamed, HaveNotRisen, IsStatusOf, faults_of_first, begun_in_first};
+ghost use Rattle.bulk_run.specs.Ending.{BeganAtMost, BeganOnce, IsBlamed, HaveNotRisen, IsStatusOf, faults_of_first, begun_in_first};
 ghost use Rattle.bulk_run.specs.PortsRun.{HasStoredFirstWanted, HasStoredWanted, IsWhole, RanWanted};
 ghost use Rattle.bulk_run.specs.Causes.{IsCaused, err_is, leaves_rooms, leaves_store, blames_tree, blames_store, blames_room};
 ghost use Rattle.bulk_run.specs.FirstPath.{refusal, refusal_before_store, refusal_over, refusal_over_before_store, roomless_refusal, told_refusal, told_refusal_over, wanted_word};
@@ -37,7 +37,7 @@ fn run<T: Tree, S: Store, R: Room>(
     ensures store { IsCaused (S.faults store.old) (S.faults store.new) (err_is blames_store result) }
     ensures room { IsCaused (R.faults room.old) (R.faults room.new) (err_is blames_room result) }
     ensures inner { IsInner result }
-    ensures begun { GrewBySome (R.begun room.old) (R.begun room.new) }
+    ensures begun { BeganOnce (R.begun room.old) (R.begun room.new) }
     ensures name { IsTrue T.tells → BeganAtMost (wanted_ports words.now (T.content tree.old)) (R.begun room.old) (R.begun room.new) }
     ensures same { err_is leaves_store result ≡ true → IsUnchanged (S.content store.old) (S.content store.new) (S.journal store.old) (S.journal store.new) }
     ensures idle { err_is leaves_rooms result ≡ true → R.begun room.new ≡ R.begun room.old }
@@ -67,7 +67,7 @@ pub fn bulk_alone<T: Tree, S: Store, R: Room, K: Sink>(
     ensures done { IsTrue T.tells → IsTrue S.tells → refusal words.now (T.content tree.old) (S.content store.old) ≡ None → result.answer ≢ Answer.NoMemory → HaveNotRisen (T.faults tree.old) (T.faults tree.new) (S.faults store.old) (S.faults store.new) (R.faults room.old) (R.faults room.new) (K.faults out.old) (K.faults out.new) → result.answer ≡ Answer.Done }
     ensures cause { IsBlamed result.answer (T.faults tree.old) (T.faults tree.new) (S.faults store.old) (S.faults store.new) (R.faults room.old) (R.faults room.new) (K.faults out.old) (K.faults out.new) }
     ensures status { IsStatusOf result.answer result.status }
-    ensures begun { GrewBySome (R.begun room.old) (R.begun room.new) }
+    ensures begun { BeganOnce (R.begun room.old) (R.begun room.new) }
     ensures name { IsTrue T.tells → BeganAtMost (wanted_ports words.now (T.content tree.old)) (R.begun room.old) (R.begun room.new) }
     ensures same { leaves_store result.answer ≡ true → IsUnchanged (S.content store.old) (S.content store.new) (S.journal store.old) (S.journal store.new) }
     ensures idle { leaves_rooms result.answer ≡ true → R.begun room.new ≡ R.begun room.old }
@@ -143,7 +143,7 @@ where
     ensures finished { IsTrue T.tells → IsTrue S.tells → result.answer ≡ Answer.SinkFault → HasStoredWanted R.Ways.tells R.Ways.runs words.now (T.content tree.old) (S.content store) (S.content result.store) }
     ensures cause { IsBlamed result.answer (T.faults tree.old) (T.faults tree.new) (S.faults store) (S.faults result.store) (faults_of_first R.faults rooms.items) (faults_of_first R.faults result.rooms.items) (K.faults out.old) (K.faults out.new) }
     ensures status { IsStatusOf result.answer result.status }
-    ensures begun { GrewBySome (begun_in_first R.begun rooms.items) (begun_in_first R.begun result.rooms.items) }
+    ensures begun { BeganOnce (begun_in_first R.begun rooms.items) (begun_in_first R.begun result.rooms.items) }
     ensures name { IsTrue T.tells → BeganAtMost (wanted_ports words.now (T.content tree.old)) (begun_in_first R.begun rooms.items) (begun_in_first R.begun result.rooms.items) }
     ensures rooms { vec_len result.rooms ≡ vec_len rooms }
     ensures others { drop 1 result.rooms.items ≡ drop 1 rooms.items }

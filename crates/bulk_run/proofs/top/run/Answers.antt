@@ -1,5 +1,5 @@
 use Rattle.std.proofs.Common.{refl}
-use Rattle.bulk_run.proofs.Ending.{answered_unrefused, none_began}
+use Rattle.bulk_run.proofs.Ending.{answered_unrefused, none_began, none_grew, some_grew}
 use Rattle.bulk_run.proofs.top.run.Goals as goal
 
 pub returns-in-Ok-clause-words : goal.returns-in-Ok-clause-words
@@ -7,3 +7,9 @@ returns-in-Ok-clause-words g c = answered_unrefused _ _ _ _ c.in-Ok.ensures.unre
 
 pub returns-in-Err-clause-name : goal.returns-in-Err-clause-name
 returns-in-Err-clause-name g c t = none_began _ _ _ refl
+
+pub returns-in-Ok-clause-begun : goal.returns-in-Ok-clause-begun
+returns-in-Ok-clause-begun g c = some_grew _ _ _ c.in-Ok.ensures.once c.run_ports.ensures.begun
+
+pub returns-in-Err-clause-begun : goal.returns-in-Err-clause-begun
+returns-in-Err-clause-begun g c = none_grew _ _ refl
