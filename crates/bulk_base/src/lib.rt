@@ -1,6 +1,7 @@
 //! Texts, paths and lists in form: the words that every layer of the builder speaks in.
 #![tactic(auto)]
 
+mod copying;
 mod file;
 mod known;
 mod line;
@@ -14,6 +15,7 @@ mod text;
 mod text_map;
 mod word;
 
+pub use copying::{copies, copy_of, switch_copies};
 pub use file::{FileItem, Files, Switch, Switches};
 pub use line::{Span, Spans, lines};
 pub use numeral::{decimal, number};

@@ -1,7 +1,8 @@
 // The commands that build a port.
-ghost use Rattle.std.specs.Prelude.{◌≡◌, ◌<◌, ◌↔◌, [], length, IfSome, IsNone, OnSome};
+ghost use Rattle.std.specs.Prelude.{◌≡◌, ◌<◌, ◌↔◌, [], length, IfOk, IfSome, IsNone, OnSome};
 
-use bulk_base::{Sequence, Text, Texts};
+use bulk_base::{NoMemory, Sequence, Text, Texts, copies};
+use std::alloc::Global;
 use std::marker::Model;
 
 /// A command: a program and its arguments, at least one word. Contracts see it as the list of its words.
@@ -39,6 +40,15 @@ impl Command {
     {
         self.words.as_slice()
     }
+
+    /// Another command of the same words. Costs their bytes.
+    pub fn copy(&self, alloc: Global) -> Result<Command, NoMemory>
+        ensures { IfOk result (λ command. command ≡ self.now) }
+    {
+        Ok(Command {
+            words: copies(alloc, self.words.as_slice())?,
+        })
+    }
 }
 
 /// A list of commands.
@@ -57,4 +67,29 @@ pub struct Steps {
     pub build: Commands,
     /// What puts the built files below `stage/`.
     pub stage: Commands,
+}
+
+fn command_copies(alloc: Global, commands: &[Command]) -> Result<Commands, NoMemory>
+    ensures { IfOk result (λ copies. copies ≡ commands.now) }
+{
+    let mut found = Sequence::new(alloc);
+    for command in commands {
+        found.push(command.copy(alloc)?)?;
+    }
+    Ok(found)
+}
+
+impl Steps {
+    /// Other steps with the same commands. Costs the bytes of their words.
+    pub fn copy(&self, alloc: Global) -> Result<Steps, NoMemory>
+        ensures { IfOk result (λ steps. steps ≡ self.now) }
+    {
+        Ok(Steps {
+            extract: command_copies(alloc, self.extract.as_slice())?,
+            patch: command_copies(alloc, self.patch.as_slice())?,
+            configure: command_copies(alloc, self.configure.as_slice())?,
+            build: command_copies(alloc, self.build.as_slice())?,
+            stage: command_copies(alloc, self.stage.as_slice())?,
+        })
+    }
 }

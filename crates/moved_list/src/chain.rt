@@ -4,7 +4,7 @@ ghost use Rattle.std.specs.List.{position_or_len};
 ghost use Rattle.port_name.specs.Sets.{is_among};
 ghost use Rattle.moved_list.specs.Walk.{from_first};
 
-use bulk_base::{NoMemory, Sequence, Text, Texts};
+use bulk_base::{NoMemory, Sequence, Text, Texts, copies};
 use std::alloc::Global;
 use std::collections::BTreeSet;
 use std::marker::Model;
@@ -55,17 +55,6 @@ impl Model for Chain {
     ghost view = { λ c. c.names };
 
     ghost invariant = { λ c. (name : List ℕ) → is_among c.set.keys name ≡ is_among c.names name };
-}
-
-/// Copies of texts.
-fn copies(alloc: Global, texts: &[Text]) -> Result<Texts, NoMemory>
-    ensures { IfOk result (λ copies. copies ≡ texts.now) }
-{
-    let mut found = Sequence::new(alloc);
-    for text in texts {
-        found.push(text.copy(alloc)?)?;
-    }
-    Ok(found)
 }
 
 fn first_place(names: &[Text], name: &[u8]) -> usize

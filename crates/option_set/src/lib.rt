@@ -25,4 +25,5 @@ pub use asking::asked;
 pub use choice::choose;
 pub use fault::OptionError;
 pub use layers::Layers;
+pub use order::in_order;
 pub use read::words_in;

@@ -2,8 +2,7 @@
 ghost use Rattle.std.specs.Prelude.{◌≡◌, length, IfOk};
 ghost use Rattle.port_name.specs.Sets.{is_among};
 
-use crate::stack::copies;
-use bulk_base::{NoMemory, Text, Texts};
+use bulk_base::{NoMemory, Text, Texts, copies};
 use port_name::Names;
 use std::alloc::Global;
 use std::marker::Model;
@@ -30,7 +29,7 @@ impl Listed {
     pub(crate) fn new(alloc: Global, names: Texts) -> Result<Listed, NoMemory>
         ensures { IfOk result (λ listed. listed ≡ names) }
     {
-        let set = Names::new(alloc, copies(alloc, &names)?)?;
+        let set = Names::new(alloc, copies(alloc, names.as_slice())?)?;
         Ok(Listed { names, set })
     }
 

@@ -5,9 +5,9 @@ ghost use Rattle.option_set.specs.Named as named;
 use bulk_base::{NoMemory, Text, TextMap, Texts};
 use std::alloc::Global;
 
-/// The words in byte order, each once. O(log n) comparisons for each of the n words.
+/// Words in byte order, each once. O(log n) comparisons for each of the n words.
 #[tactic(auto, unfolding(crate::specs::Named::in_order))]
-pub(crate) fn in_order(alloc: Global, words: &[Text]) -> Result<Texts, NoMemory>
+pub fn in_order(alloc: Global, words: &[Text]) -> Result<Texts, NoMemory>
     ensures { IfOk result (λ ordered. ordered ≡ named.in_order words.now) }
 {
     let mut set = TextMap::new(alloc);

@@ -4,7 +4,7 @@ ghost use Rattle.option_set.specs.Layers.{layered, on_by_layers};
 ghost use Rattle.option_set.specs.Stack.{on_in};
 
 use crate::layers::Layers;
-use bulk_base::{NoMemory, Sequence, Text, Texts};
+use bulk_base::{NoMemory, Text, Texts, copies};
 use port_name::Names;
 use std::alloc::Global;
 
@@ -24,23 +24,12 @@ pub(crate) struct Stack {
     file: Layer,
 }
 
-/// Copies of texts.
-pub(crate) fn copies(alloc: Global, texts: &Texts) -> Result<Texts, NoMemory>
-    ensures { IfOk result (λ copies. copies ≡ texts.now) }
-{
-    let mut found = Sequence::new(alloc);
-    for text in texts.as_slice() {
-        found.push(text.copy(alloc)?)?;
-    }
-    Ok(found)
-}
-
 fn layer_of(alloc: Global, set: &Texts, unset: &Texts) -> Result<Layer, NoMemory>
     ensures { IfOk result (λ l. (below : Bool) (name : List ℕ) → layered l.set l.unset below name ≡ layered set.now unset.now below name) }
 {
     Ok(Layer {
-        set: Names::new(alloc, copies(alloc, set)?)?,
-        unset: Names::new(alloc, copies(alloc, unset)?)?,
+        set: Names::new(alloc, copies(alloc, set.as_slice())?)?,
+        unset: Names::new(alloc, copies(alloc, unset.as_slice())?)?,
     })
 }
 
@@ -57,7 +46,7 @@ impl Stack {
         ensures { IfOk result (λ s. (name : List ℕ) → on_in s name ≡ on_by_layers default.now layers.now name) }
     {
         Ok(Stack {
-            default: Names::new(alloc, copies(alloc, default)?)?,
+            default: Names::new(alloc, copies(alloc, default.as_slice())?)?,
             global: layer_of(alloc, &layers.global_set, &layers.global_unset)?,
             port: layer_of(alloc, &layers.port_set, &layers.port_unset)?,
             file: layer_of(alloc, &layers.file_set, &layers.file_unset)?,

@@ -5,8 +5,8 @@ ghost use Rattle.std.specs.FinMap as map;
 ghost use Rattle.bulk_base.specs.Text.{is_plain_text};
 ghost use Rattle.port_desc.specs.Commands as commands;
 
-use crate::values::{copies, push_words_by_options, value_for, words_of_value};
-use bulk_base::{NoMemory, Sequence, Text, Texts};
+use crate::values::{push_words_by_options, value_for, words_of_value};
+use bulk_base::{NoMemory, Sequence, Text, Texts, copies};
 use bulk_model::{Command, Commands, Steps};
 use port_vars::Vars;
 use std::alloc::Global;

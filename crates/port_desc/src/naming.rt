@@ -9,7 +9,7 @@ ghost use Rattle.port_desc.specs.Naming as naming;
 
 use crate::fault::DescError;
 use crate::values::{value_for, value_named};
-use bulk_base::{NoMemory, Text};
+use bulk_base::{NoMemory, Text, copy_of};
 use port_name::{NameError, NamePart, NameParts, pkgname};
 use port_vars::Vars;
 use std::alloc::Global;
@@ -39,16 +39,6 @@ fn copy_or_empty(alloc: Global, value: Option<&Text>) -> Result<Text, NoMemory>
     match value {
         Some(text) => text.copy(alloc),
         None => Text::literal(alloc, b""),
-    }
-}
-
-/// A copy of a value, if there is one.
-fn copy_of(alloc: Global, value: Option<&Text>) -> Result<Option<Text>, NoMemory>
-    ensures { IfOk result (λ text. text ≡ option_copied value.entry) }
-{
-    match value {
-        Some(text) => Ok(Some(text.copy(alloc)?)),
-        None => Ok(None),
     }
 }
 

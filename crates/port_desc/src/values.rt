@@ -153,14 +153,3 @@ pub(crate) fn names_on(alloc: Global, options: &[Switch]) -> Result<Texts, NoMem
     }
     Ok(names)
 }
-
-/// Copies of texts.
-pub(crate) fn copies(alloc: Global, texts: &[Text]) -> Result<Texts, NoMemory>
-    ensures { IfOk result (λ copies. copies ≡ texts.now) }
-{
-    let mut found = Sequence::new(alloc);
-    for text in texts {
-        found.push(text.copy(alloc)?)?;
-    }
-    Ok(found)
-}

@@ -18,7 +18,7 @@ fn has_only_port_bytes(text: &[u8]) -> bool
 
 /// Whether a text is a category's or a port's name: 1 to 64 letters, digits, `_`, `-`, `.` and `+`, the first a letter, a
 /// digit or `_`.
-pub(crate) fn is_port_name(text: &[u8]) -> bool
+pub fn is_port_name(text: &[u8]) -> bool
     ensures { result ≡ names.is_port_name text.now }
 {
     !text.is_empty()

@@ -11,6 +11,7 @@ mod tests;
 mod word;
 
 pub use fault::{NameError, NamePart};
+pub use form::is_port_name;
 pub use names::Names;
 pub use package::{NameParts, pkgname};
 pub use place::Origin;

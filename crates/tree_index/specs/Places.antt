@@ -23,6 +23,10 @@ ports_file category = joined (category_folder category) (codes "subdir.vars")
 abbrev pub port_file : Origin → List ℕ
 port_file origin = joined (joined (category_folder origin.category) origin.port) (codes "port.vars")
 
+-- the folder of a port's files
+abbrev pub files_folder : Origin → List ℕ
+files_folder origin = joined (joined (category_folder origin.category) origin.port) (codes "files")
+
 -- a port's options file
 abbrev pub options_file : Origin → List ℕ
 options_file origin = joined (joined (codes "etc/options") ((origin.category ++ codes "_") ++ origin.port)) (codes "options")

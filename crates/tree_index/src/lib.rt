@@ -25,4 +25,5 @@ mod var_file;
 pub use fault::{IndexError, PortKind};
 pub use indexing::index;
 pub use node::{At, NodeInfo, NodeInfos, Target, Targets};
+pub use place::{files_folder, origin_name, port_file};
 pub use ports_index::Index;

@@ -1,9 +1,6 @@
 // The lists of categories, and of a category's ports.
 ghost use Rattle.std.specs.Prelude.{◌≡◌, ◌≢◌, find, Ok, Err, IsTrue, IfOk, IfErr};
-ghost use Rattle.std.specs.List.{list_all};
 ghost use Rattle.std.specs.Option.{option_copied};
-ghost use Rattle.bulk_base.specs.Names as names;
-ghost use Rattle.option_set.specs.Named as named;
 ghost use Rattle.tree_index.specs.Facts.{IsCaused};
 ghost use Rattle.tree_index.specs.Gathered.{IsNameList};
 ghost use Rattle.tree_index.specs.VarFiles as files;
@@ -11,48 +8,16 @@ ghost use Rattle.tree_index.specs.VarFiles as files;
 use crate::fault::{IndexError, PortKind};
 use crate::port_fault::bad_port;
 use crate::var_file::read_vars_at;
-use bulk_base::{NoMemory, Path, Text, TextMap, Texts};
-use option_set::words_in;
+use bulk_base::{Path, Text, Texts};
+use option_set::{in_order, words_in};
 use outside::Tree;
+use port_name::is_port_name;
 use std::alloc::Global;
-
-fn is_port_byte(byte: u8) -> bool
-    ensures { result ≡ names.is_port_byte byte }
-{
-    byte.is_ascii_alphanumeric() || byte == b'_' || byte == b'-' || byte == b'.' || byte == b'+'
-}
-
-fn has_only_port_bytes(text: &[u8]) -> bool
-    ensures { result ≡ list_all names.is_port_byte text.now }
-{
-    text.iter().all(|b| is_port_byte(*b))
-}
-
-fn is_port_name(text: &[u8]) -> bool
-    ensures { result ≡ names.is_port_name text.now }
-{
-    !text.is_empty()
-        && text.len() <= 64
-        && has_only_port_bytes(text)
-        && (text[0].is_ascii_alphanumeric() || text[0] == b'_')
-}
 
 fn is_no_port_name(word: &Text) -> bool
     ensures { result ≡ files.is_no_port_name word.now }
 {
     !is_port_name(word.bytes())
-}
-
-/// The words in byte order, each once. O(log n) comparisons for each of the n words.
-#[tactic(auto, unfolding(option_set::specs::Named::in_order))]
-fn in_order(alloc: Global, words: &[Text]) -> Result<Texts, NoMemory>
-    ensures { IfOk result (λ ordered. ordered ≡ named.in_order words.now) }
-{
-    let mut set = TextMap::new(alloc);
-    for word in words {
-        set.insert(word.copy(alloc)?, ())?;
-    }
-    set.keys(alloc)
 }
 
 /// The first word that is no name of a category or a port.

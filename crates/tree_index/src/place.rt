@@ -27,8 +27,8 @@ pub(crate) fn joined_by(
     Text::of(alloc, bytes.as_slice())
 }
 
-/// An origin as a name: the category and the port with `/` between.
-pub(crate) fn origin_name(alloc: Global, origin: &Origin) -> Result<Text, NoMemory>
+/// An origin as a name: the category and the port with `/` between (Porter's Handbook).
+pub fn origin_name(alloc: Global, origin: &Origin) -> Result<Text, NoMemory>
     ensures { IfOk result (λ name. name ≡ places.origin_name origin.now) }
 {
     joined_by(alloc, &origin.category, b'/', &origin.port)
@@ -81,12 +81,20 @@ fn port_folder(alloc: Global, origin: &Origin) -> Result<Path, NoMemory>
     category_folder(alloc, &origin.category)?.join_short(alloc, &name_path(alloc, &origin.port)?)
 }
 
-/// A port's description.
-pub(crate) fn port_file(alloc: Global, origin: &Origin) -> Result<Path, NoMemory>
+/// Where a port's description stands in the tree: `ports/CATEGORY/PORT/port.vars` (docs/FORMATS.md, "The tree folder").
+pub fn port_file(alloc: Global, origin: &Origin) -> Result<Path, NoMemory>
     requires { IsPlace origin.now }
     ensures { IfOk result (λ path. path ≡ places.port_file origin.now) }
 {
     port_folder(alloc, origin)?.join_short(alloc, &Path::literal(alloc, b"port.vars")?)
+}
+
+/// The folder of a port's files: `ports/CATEGORY/PORT/files` (docs/FORMATS.md, "The tree folder").
+pub fn files_folder(alloc: Global, origin: &Origin) -> Result<Path, NoMemory>
+    requires { IsPlace origin.now }
+    ensures { IfOk result (λ path. path ≡ places.files_folder origin.now) }
+{
+    port_folder(alloc, origin)?.join_short(alloc, &Path::literal(alloc, b"files")?)
 }
 
 /// `CATEGORY_PORT` as a path of one part.

@@ -10,21 +10,11 @@ ghost use Rattle.tree_index.specs.PortNodes as ports;
 
 use crate::node::NodeInfo;
 use crate::place::{joined_by, origin_name};
-use bulk_base::{NoMemory, Sequence, Switch, Switches, Text};
+use bulk_base::{NoMemory, Sequence, Switches, Text, copy_of, switch_copies};
 use port_desc::{Desc, DescError, describe};
 use port_name::Origin;
 use port_vars::Vars;
 use std::alloc::Global;
-
-/// A copy of a text, if there is one.
-fn copy_of(alloc: Global, text: Option<&Text>) -> Result<Option<Text>, NoMemory>
-    ensures { IfOk result (λ copied. copied ≡ option_copied text.entry) }
-{
-    match text {
-        Some(text) => Ok(Some(text.copy(alloc)?)),
-        None => Ok(None),
-    }
-}
 
 fn copy_origin(alloc: Global, origin: &Origin) -> Result<Origin, NoMemory>
     ensures { IfOk result (λ copied. copied ≡ origin.now) }
@@ -33,19 +23,6 @@ fn copy_origin(alloc: Global, origin: &Origin) -> Result<Origin, NoMemory>
         category: origin.category.copy(alloc)?,
         port: origin.port.copy(alloc)?,
     })
-}
-
-fn copy_options(alloc: Global, options: &Switches) -> Result<Switches, NoMemory>
-    ensures { IfOk result (λ copied. copied ≡ options.now) }
-{
-    let mut copied = Sequence::new(alloc);
-    for option in options.as_slice() {
-        copied.push(Switch {
-            name: option.name.copy(alloc)?,
-            on: option.on,
-        })?;
-    }
-    Ok(copied)
 }
 
 /// A node's name: the origin, or the origin, `@` and the flavor.
@@ -88,7 +65,7 @@ fn node_with(
         origin: copy_origin(alloc, origin)?,
         flavor: copy_of(alloc, flavor)?,
         is_default,
-        options: copy_options(alloc, options)?,
+        options: switch_copies(alloc, options.as_slice())?,
         ignored: copy_of(alloc, reason(try_broken, &desc))?,
         desc,
         targets: Sequence::new(alloc),
