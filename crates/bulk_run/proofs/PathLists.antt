@@ -45,9 +45,6 @@ list_all-left_out p front x back h = let k = parts_of_all p front x back h in li
 
 -- ---- one path among others
 
-has_no_path_below : List (List ℕ) → List ℕ → Bool
-has_no_path_below paths folder = list_all (λ path. not (is_below folder path)) paths
-
 below_none_before : (front : List (List ℕ)) (x : List ℕ) (back : List (List ℕ)) → has_no_folder (front ++ x ∷ back) ≡ true → list_all (λ y. not (is_below x y)) front ≡ true
 below_none_before front x back h =
     (parts_of_all (λ y. not (is_below x y)) front x back (parts_of_all (λ f. list_all (λ y. not (is_below f y)) (front ++ x ∷ back)) front x back h).1).0

@@ -7,8 +7,8 @@ use Rattle.std.specs.List.{filter_map}
 use Rattle.std.proofs.lemmas.List.Folds.{find-append}
 use Rattle.outside.specs.Contents.{Contents, files_below}
 use Rattle.bulk_model.specs.Files.{file_at, files_in}
-use Rattle.bulk_run.specs.FirstPath.{is_large}
-use Rattle.bulk_run.specs.PortTree.{IsTaken}
+use Rattle.bulk_run.specs.NodeJobs.{is_large}
+use Rattle.bulk_run.specs.PortFiles.{IsTaken}
 use Rattle.bulk_run.proofs.PathLists.{IsPathList, rest_of}
 use Rattle.bulk_model.specs.Facts.{IsFileList, paths_of}
 use Rattle.std.specs.List.{list_all}

@@ -2,58 +2,61 @@
 use Rattle.std.specs.Prelude.{◌≡◌, ℕ, Bool, true, false, ◌≤◌, Result, Ok, Err}
 use Rattle.outside.specs.Faults.{Rose}
 use Rattle.bulk_run.specs.declared.answer.Answer.{Answer}
-use Rattle.bulk_run.specs.declared.answer.Answer.TheVariants.{Done, Usage, Builders, NotYet, NoOrigin, TreeFault, StoreFault, RoomFault, SinkFault, NoMemory}
+use Rattle.bulk_run.specs.Kind.{Kind, kind_of, bad_words, bad_tree, not_served, tree_failed, store_failed, room_failed}
+
+abbrev pub is_tree_failure : Kind → Bool
+is_tree_failure tree_failed = true
+is_tree_failure _ = false
+
+abbrev pub is_store_failure : Kind → Bool
+is_store_failure store_failed = true
+is_store_failure _ = false
+
+abbrev pub is_room_failure : Kind → Bool
+is_room_failure (room_failed builder) = true
+is_room_failure _ = false
 
 abbrev pub blames_tree : Answer → Bool
-blames_tree TreeFault = true
-blames_tree _ = false
+blames_tree answer = is_tree_failure (kind_of answer)
 
 abbrev pub blames_store : Answer → Bool
-blames_store StoreFault = true
-blames_store _ = false
+blames_store answer = is_store_failure (kind_of answer)
 
 abbrev pub blames_room : Answer → Bool
-blames_room (RoomFault builder) = true
-blames_room _ = false
+blames_room answer = is_room_failure (kind_of answer)
 
 -- a refusal: what the words, the tree and the store decide
-abbrev pub is_refusal : Answer → Bool
-is_refusal Done = false
-is_refusal Usage = true
-is_refusal (Builders asked had) = true
-is_refusal (NotYet path) = true
-is_refusal (NoOrigin word) = true
-is_refusal TreeFault = false
-is_refusal StoreFault = false
-is_refusal (RoomFault builder) = false
-is_refusal SinkFault = false
-is_refusal NoMemory = false
+abbrev pub refuses : Kind → Bool
+refuses bad_words = true
+refuses bad_tree = true
+refuses not_served = true
+refuses _ = false
 
--- an answer that stands before the store is changed: a refusal, or a fault of the tree or of a room
-abbrev pub leaves_store : Answer → Bool
-leaves_store Done = false
-leaves_store Usage = true
-leaves_store (Builders asked had) = true
-leaves_store (NotYet path) = true
-leaves_store (NoOrigin word) = true
-leaves_store TreeFault = true
-leaves_store StoreFault = false
-leaves_store (RoomFault builder) = true
-leaves_store SinkFault = false
-leaves_store NoMemory = false
+abbrev pub is_refusal : Answer → Bool
+is_refusal answer = refuses (kind_of answer)
 
 -- an answer that stands before a room is entered: a refusal, or a fault of the tree
+abbrev pub comes_before_rooms : Kind → Bool
+comes_before_rooms bad_words = true
+comes_before_rooms bad_tree = true
+comes_before_rooms not_served = true
+comes_before_rooms tree_failed = true
+comes_before_rooms _ = false
+
 abbrev pub leaves_rooms : Answer → Bool
-leaves_rooms Done = false
-leaves_rooms Usage = true
-leaves_rooms (Builders asked had) = true
-leaves_rooms (NotYet path) = true
-leaves_rooms (NoOrigin word) = true
-leaves_rooms TreeFault = true
-leaves_rooms StoreFault = false
-leaves_rooms (RoomFault builder) = false
-leaves_rooms SinkFault = false
-leaves_rooms NoMemory = false
+leaves_rooms answer = comes_before_rooms (kind_of answer)
+
+-- an answer that stands before the store is changed: one of those, or a fault of a room
+abbrev pub comes_before_store : Kind → Bool
+comes_before_store bad_words = true
+comes_before_store bad_tree = true
+comes_before_store not_served = true
+comes_before_store tree_failed = true
+comes_before_store (room_failed builder) = true
+comes_before_store _ = false
+
+abbrev pub leaves_store : Answer → Bool
+leaves_store answer = comes_before_store (kind_of answer)
 
 -- whether a result is an error that passes a test
 abbrev pub err_is : {X : Type 0} → (Answer → Bool) → Result X Answer → Bool

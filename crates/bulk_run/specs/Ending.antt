@@ -5,7 +5,7 @@ use Rattle.outside.specs.Faults.{Rose}
 use Rattle.bulk_model.specs.Views.{JobView}
 use Rattle.bulk_run.specs.PortsWanted.{PortsWanted, names_of}
 use Rattle.bulk_run.specs.declared.answer.Answer.{Answer}
-use Rattle.bulk_run.specs.declared.answer.Answer.TheVariants.{Done, Usage, Builders, NotYet, NoOrigin, TreeFault, StoreFault, RoomFault, SinkFault, NoMemory}
+use Rattle.bulk_run.specs.Kind.{Kind, kind_of, printed, bad_words, bad_tree, not_served, tree_failed, store_failed, room_failed, sink_failed, no_memory}
 
 -- some first of a list of names were begun, which names each package once
 pub record BeganOnce (before now : List (List ℕ)) : Type 0 where
@@ -25,17 +25,19 @@ BeganAtMost (Some ports) before now = BeganFirst ports.jobs before now
 
 -- a fault is answered only where the count of that very object rose, and Done only where no count moved; the counts
 -- of the tree, the store, the room and the sink stand before and after, in this order
+abbrev pub blamed_by : Kind → ℕ → ℕ → ℕ → ℕ → ℕ → ℕ → ℕ → ℕ → Type 0
+blamed_by printed tb tn sb sn rb rn kb kn = (tn ≡ tb) × (sn ≡ sb) × (rn ≡ rb) × (kn ≡ kb)
+blamed_by bad_words tb tn sb sn rb rn kb kn = Unit {0}
+blamed_by bad_tree tb tn sb sn rb rn kb kn = Unit {0}
+blamed_by not_served tb tn sb sn rb rn kb kn = Unit {0}
+blamed_by tree_failed tb tn sb sn rb rn kb kn = Rose tb tn
+blamed_by store_failed tb tn sb sn rb rn kb kn = Rose sb sn
+blamed_by (room_failed builder) tb tn sb sn rb rn kb kn = (builder ≡ 0) × Rose rb rn
+blamed_by sink_failed tb tn sb sn rb rn kb kn = Rose kb kn
+blamed_by no_memory tb tn sb sn rb rn kb kn = Unit {0}
+
 abbrev pub IsBlamed : Answer → ℕ → ℕ → ℕ → ℕ → ℕ → ℕ → ℕ → ℕ → Type 0
-IsBlamed Done tb tn sb sn rb rn kb kn = (tn ≡ tb) × (sn ≡ sb) × (rn ≡ rb) × (kn ≡ kb)
-IsBlamed Usage tb tn sb sn rb rn kb kn = Unit {0}
-IsBlamed (Builders asked had) tb tn sb sn rb rn kb kn = Unit {0}
-IsBlamed (NotYet path) tb tn sb sn rb rn kb kn = Unit {0}
-IsBlamed (NoOrigin word) tb tn sb sn rb rn kb kn = Unit {0}
-IsBlamed TreeFault tb tn sb sn rb rn kb kn = Rose tb tn
-IsBlamed StoreFault tb tn sb sn rb rn kb kn = Rose sb sn
-IsBlamed (RoomFault builder) tb tn sb sn rb rn kb kn = (builder ≡ 0) × Rose rb rn
-IsBlamed SinkFault tb tn sb sn rb rn kb kn = Rose kb kn
-IsBlamed NoMemory tb tn sb sn rb rn kb kn = Unit {0}
+IsBlamed answer tb tn sb sn rb rn kb kn = blamed_by (kind_of answer) tb tn sb sn rb rn kb kn
 
 -- no count of the four rose
 pub record HaveNotRisen (tb tn sb sn rb rn kb kn : ℕ) : Type 0 where
@@ -45,17 +47,19 @@ pub record HaveNotRisen (tb tn sb sn rb rn kb kn : ℕ) : Type 0 where
   pub sink : Rose kb kn → ⊥
 
 -- the exit status that an answer has: 0 or 1 for Done
+abbrev pub has_status : Kind → ℕ → Type 0
+has_status printed status = status ≤ 1
+has_status bad_words status = status ≡ 2
+has_status bad_tree status = status ≡ 2
+has_status not_served status = status ≡ 2
+has_status tree_failed status = status ≡ 3
+has_status store_failed status = status ≡ 3
+has_status (room_failed builder) status = status ≡ 3
+has_status sink_failed status = status ≡ 3
+has_status no_memory status = status ≡ 4
+
 abbrev pub IsStatusOf : Answer → ℕ → Type 0
-IsStatusOf Done status = status ≤ 1
-IsStatusOf Usage status = status ≡ 2
-IsStatusOf (Builders asked had) status = status ≡ 2
-IsStatusOf (NotYet path) status = status ≡ 2
-IsStatusOf (NoOrigin word) status = status ≡ 2
-IsStatusOf TreeFault status = status ≡ 3
-IsStatusOf StoreFault status = status ≡ 3
-IsStatusOf (RoomFault builder) status = status ≡ 3
-IsStatusOf SinkFault status = status ≡ 3
-IsStatusOf NoMemory status = status ≡ 4
+IsStatusOf answer status = has_status (kind_of answer) status
 
 -- what is said of the first of some rooms
 abbrev pub faults_of_first : {R : Type 0} → (R → ℕ) → List R → ℕ

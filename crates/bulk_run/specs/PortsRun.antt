@@ -7,7 +7,8 @@ use Rattle.bulk_model.specs.declared.reason.Notice.{Notice}
 use Rattle.bulk_model.specs.Bake.{Runs, bake}
 use Rattle.bulk_model.specs.Baked.{IsOutcomeOf}
 use Rattle.bulk_model.specs.Views.{JobView}
-use Rattle.bulk_run.specs.PortsWanted.{PortsWanted, wanted_ports, names_of}
+use Rattle.bulk_run.specs.PortsWanted.{PortsWanted, names_of}
+use Rattle.bulk_run.specs.Refusals.{wanted_ports}
 use Rattle.bulk_run.specs.Report.{stored_all, ports_text, ports_status}
 use Rattle.bulk_run.specs.declared.port_run.Report.{Report}
 

@@ -1,5 +1,12 @@
 // How a run ends.
-use bulk_base::Text;
+ghost use Rattle.std.specs.Prelude.{◌≡◌};
+ghost use Rattle.bulk_run.specs.declared.answer.Answer.TheVariants.{NoMemory as Refused};
+
+use bulk_base::{Text, Texts};
+use bulk_model::Which;
+use conf_file::ConfKind;
+use std::alloc::AllocError;
+use tree_index::PortKind;
 
 /// How a run ended.
 #[derive(Debug, Drop)]
@@ -15,15 +22,66 @@ pub enum Answer {
         /// The number of rooms.
         had: u64,
     },
-    /// Something that is not served yet is there.
-    NotYet {
-        /// The file that is not served yet.
+    /// A file of settings is at fault.
+    BadConf {
+        /// The file's path.
         path: Text,
+        /// The line's number, from 1; 0 for the whole file.
+        line: u32,
+        /// What is wrong.
+        kind: ConfKind,
+    },
+    /// A file of the ports is at fault.
+    BadPort {
+        /// The file's path.
+        path: Text,
+        /// The line's number, from 1; 0 for the whole file.
+        line: u32,
+        /// What is wrong.
+        kind: PortKind,
+    },
+    /// Two nodes have packages of one name.
+    DupName {
+        /// The lesser node.
+        a: Text,
+        /// The other node.
+        b: Text,
+        /// The package's name.
+        name: Text,
+    },
+    /// A number passes its limit.
+    Limit {
+        /// What was counted.
+        which: Which,
+        /// How many there are.
+        count: u64,
     },
     /// The tree has no such port.
     NoOrigin {
         /// The word.
         word: Text,
+    },
+    /// The port has no such flavor.
+    NoFlavor {
+        /// The word.
+        word: Text,
+    },
+    /// The port was removed.
+    Gone {
+        /// The word.
+        word: Text,
+        /// Why, as MOVED says.
+        reason: Text,
+    },
+    /// MOVED leads a word in a circle.
+    MovedLoop {
+        /// The names of the circle, in the order followed.
+        origins: Texts,
+    },
+    /// Something that is not served yet is there.
+    NotYet {
+        /// The file that is not served yet.
+        path: Text,
     },
     /// The tree failed.
     TreeFault,
@@ -38,6 +96,14 @@ pub enum Answer {
     SinkFault,
     /// Want of memory.
     NoMemory,
+}
+
+impl From<AllocError> for Answer {
+    ghost from_gives = { λ _ answer. answer ≡ Refused };
+
+    fn from(_: AllocError) -> Answer {
+        Answer::NoMemory
+    }
 }
 
 /// How a run ended, and what comes back from it.

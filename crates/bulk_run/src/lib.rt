@@ -4,24 +4,27 @@
 mod answer;
 mod answer_line;
 mod decision;
-mod first_port;
 mod furnishing;
+mod kind_text;
+mod make_file;
+mod node_job;
 mod outcome_store;
 mod packing;
 mod phases;
 mod port_builds;
-mod port_file;
+mod port_files;
 mod port_lists;
-mod port_place;
 mod port_run;
 mod port_store;
-mod port_tree;
+mod ports_wanted;
 mod refusal;
 mod room_build;
 mod staging;
 #[cfg(test)]
 mod tests;
 mod top;
+mod tree_answer;
+mod unserved;
 
 pub use answer::{Answer, Closed, Finished};
 pub use top::{bulk_alone, poudriere};

@@ -4,34 +4,12 @@ ghost use Rattle.bulk_model.specs.Facts.{IsFileList};
 ghost use Rattle.bulk_model.specs.Bake as bake;
 ghost use Rattle.bulk_model.specs.Baked.{IsOutcomeOf};
 
-use bulk_base::{Files, NoMemory, Sequence, Switch, Switches, Text};
+use bulk_base::{Files, NoMemory, Sequence, copy_of, switch_copies};
 use bulk_model::{Depend, Depends, Job, Outcome, Package, Phase, Shared, weight};
 use std::alloc::Global;
 
 /// The most that a package may weigh.
 pub(crate) const MOST_WEIGHT: u64 = 524288;
-
-fn copy_flavor(alloc: Global, flavor: &Option<Text>) -> Result<Option<Text>, NoMemory>
-    ensures { IfOk result (λ copied. copied ≡ flavor.now) }
-{
-    match flavor {
-        Some(name) => Ok(Some(name.copy(alloc)?)),
-        None => Ok(None),
-    }
-}
-
-fn copy_options(alloc: Global, options: &Switches) -> Result<Switches, NoMemory>
-    ensures { IfOk result (λ copied. copied ≡ options.now) }
-{
-    let mut copied = Sequence::new(alloc);
-    for option in options.as_slice() {
-        copied.push(Switch {
-            name: option.name.copy(alloc)?,
-            on: option.on,
-        })?;
-    }
-    Ok(copied)
-}
 
 fn copy_depends(alloc: Global, depends: &Depends) -> Result<Depends, NoMemory>
     ensures { IfOk result (λ copied. copied ≡ depends.now) }
@@ -55,8 +33,8 @@ fn package_of(alloc: Global, job: &Job, files: Files) -> Result<Package, NoMemor
     Ok(Package {
         name: job.name.copy(alloc)?,
         origin: job.origin.copy(alloc)?,
-        flavor: copy_flavor(alloc, &job.flavor)?,
-        options: copy_options(alloc, &job.options)?,
+        flavor: copy_of(alloc, job.flavor.as_ref())?,
+        options: switch_copies(alloc, job.options.as_slice())?,
         depends: copy_depends(alloc, &job.depends)?,
         files,
     })

@@ -9,10 +9,10 @@ ghost use Rattle.bulk_run.specs.PortsRun.{Reports, AreBuildsOf, HasStoredFirst, 
 ghost use Rattle.bulk_run.specs.Ending.{BeganFirst};
 
 use crate::answer::Answer;
-use crate::decision::Decision;
 use crate::outcome_store::store_outcomes;
 use crate::port_builds::{Outcomes, build_ports};
 use crate::port_lists::{port_lists, setback};
+use crate::ports_wanted::Decision;
 use bulk_model::{Job, Notice, Outcome};
 use outside::{Outer, Room, Store};
 use std::alloc::Global;

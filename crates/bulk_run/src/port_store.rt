@@ -7,7 +7,7 @@ ghost use Rattle.outside.specs.Faults.{HasCause};
 ghost use Rattle.outside.specs.declared.change.Change.TheVariants.{Put};
 ghost use Rattle.bulk_model.specs.Sound.{package_file};
 ghost use Rattle.bulk_model.specs.Spelling.{spelling};
-ghost use Rattle.bulk_run.specs.FirstPath.{is_package_file as is_package_file_of};
+ghost use Rattle.bulk_run.specs.Refusals.{is_package_file as is_package_file_of};
 
 use bulk_base::{NoMemory, Text};
 use bulk_model::Package;

@@ -6,8 +6,7 @@ ghost use Rattle.bulk_run.specs.AnswerLine.{answer_line};
 ghost use Rattle.bulk_run.specs.Ending.{BeganAtMost, BeganOnce, IsBlamed, HaveNotRisen, IsStatusOf, faults_of_first, begun_in_first};
 ghost use Rattle.bulk_run.specs.PortsRun.{HasStoredFirstWanted, HasStoredWanted, IsWhole, RanWanted};
 ghost use Rattle.bulk_run.specs.Causes.{IsCaused, err_is, leaves_rooms, leaves_store, blames_tree, blames_store, blames_room};
-ghost use Rattle.bulk_run.specs.FirstPath.{refusal, refusal_before_store, refusal_over, refusal_over_before_store, roomless_refusal, told_refusal, told_refusal_over, wanted_word};
-ghost use Rattle.bulk_run.specs.PortsWanted.{wanted_ports};
+ghost use Rattle.bulk_run.specs.Refusals.{asked_words, refusal, refusal_before_store, refusal_over, refusal_over_before_store, roomless_refusal, told_refusal, told_refusal_over, wanted_ports};
 ghost use Rattle.bulk_run.specs.Decided.{AnswersRoomless, AnswersWords, AnswersWordsOver, IsInner, EndsAs, EndsInTree, RunEndsAs, RunEndsInTree};
 
 use crate::answer::{Answer, Closed, Finished};
@@ -29,7 +28,7 @@ fn run<T: Tree, S: Store, R: Room>(
 ) -> Result<Report, Answer>
     ensures told { IsTrue T.tells → IsTrue S.tells → RunEndsAs (refusal words.now (T.content tree.old) (S.content store.old)) result }
     ensures before_store { IsTrue T.tells → RunEndsInTree (refusal_before_store words.now (T.content tree.old)) result }
-    ensures words { IfErr result (AnswersWords (wanted_word words.now)) }
+    ensures words { IfErr result (AnswersWords (asked_words words.now)) }
     ensures whole { IsTrue T.tells → IsTrue S.tells → IfOk result (RanWanted R.Ways.tells R.Ways.runs words.now (T.content tree.old) (S.content store.old) (S.content store.new) (R.begun room.old) (R.begun room.new)) }
     ensures left { IsTrue T.tells → IsTrue S.tells → (S.content store.new ≡ S.content store.old) ⊎ HasStoredFirstWanted R.Ways.tells R.Ways.runs words.now (T.content tree.old) (S.content store.old) (S.content store.new) }
     ensures unrefused { OnOk result (told_refusal T.tells S.tells words.now (T.content tree.old) (S.content store.old) ≡ None) }
@@ -62,7 +61,7 @@ pub fn bulk_alone<T: Tree, S: Store, R: Room, K: Sink>(
 ) -> Closed
     ensures told { IsTrue T.tells → IsTrue S.tells → EndsAs (refusal words.now (T.content tree.old) (S.content store.old)) result.answer }
     ensures before_store { IsTrue T.tells → EndsInTree (refusal_before_store words.now (T.content tree.old)) result.answer }
-    ensures words { AnswersWords (wanted_word words.now) result.answer }
+    ensures words { AnswersWords (asked_words words.now) result.answer }
     ensures whole { IsTrue T.tells → IsTrue S.tells → IsTrue K.tells → result.answer ≡ Answer.Done → IsWhole R.Ways.tells R.Ways.runs words.now (T.content tree.old) (S.content store.old) (S.content store.new) (R.begun room.old) (R.begun room.new) (K.written out.old) (K.written out.new) result.status }
     ensures done { IsTrue T.tells → IsTrue S.tells → refusal words.now (T.content tree.old) (S.content store.old) ≡ None → result.answer ≢ Answer.NoMemory → HaveNotRisen (T.faults tree.old) (T.faults tree.new) (S.faults store.old) (S.faults store.new) (R.faults room.old) (R.faults room.new) (K.faults out.old) (K.faults out.new) → result.answer ≡ Answer.Done }
     ensures cause { IsBlamed result.answer (T.faults tree.old) (T.faults tree.new) (S.faults store.old) (S.faults store.new) (R.faults room.old) (R.faults room.new) (K.faults out.old) (K.faults out.new) }
@@ -93,7 +92,7 @@ pub fn bulk_alone<T: Tree, S: Store, R: Room, K: Sink>(
 // Runs a command that has no room.
 fn without_rooms<K: Sink>(alloc: Global, words: &[Text], out: &mut K) -> Closed
     ensures told { EndsAs (roomless_refusal words.now) result.answer }
-    ensures words { AnswersRoomless (wanted_word words.now) result.answer }
+    ensures words { AnswersRoomless (asked_words words.now) result.answer }
     ensures refused { result.answer ≢ Answer.Done }
     ensures unprinted { result.answer ≢ Answer.SinkFault }
     ensures cause { (tb tn sb sn : ℕ) → IsBlamed result.answer tb tn sb sn 0 0 (K.faults out.old) (K.faults out.new) }
@@ -132,7 +131,7 @@ where
     requires { vec_len rooms < 2 ^ 32 }
     ensures told { IsTrue T.tells → IsTrue S.tells → EndsAs (refusal_over rooms.items words.now (T.content tree.old) (S.content store)) result.answer }
     ensures before_store { IsTrue T.tells → EndsInTree (refusal_over_before_store rooms.items words.now (T.content tree.old)) result.answer }
-    ensures words { AnswersWordsOver rooms.items (wanted_word words.now) result.answer }
+    ensures words { AnswersWordsOver rooms.items (asked_words words.now) result.answer }
     ensures whole { IsTrue T.tells → IsTrue S.tells → IsTrue K.tells → result.answer ≡ Answer.Done → IsWhole R.Ways.tells R.Ways.runs words.now (T.content tree.old) (S.content store) (S.content result.store) (begun_in_first R.begun rooms.items) (begun_in_first R.begun result.rooms.items) (K.written out.old) (K.written out.new) result.status }
     ensures done { IsTrue T.tells → IsTrue S.tells → refusal_over rooms.items words.now (T.content tree.old) (S.content store) ≡ None → result.answer ≢ Answer.NoMemory → HaveNotRisen (T.faults tree.old) (T.faults tree.new) (S.faults store) (S.faults result.store) (faults_of_first R.faults rooms.items) (faults_of_first R.faults result.rooms.items) (K.faults out.old) (K.faults out.new) → result.answer ≡ Answer.Done }
     ensures same { leaves_store result.answer ≡ true → IsUnchanged (S.content store) (S.content result.store) (S.journal store) (S.journal result.store) }

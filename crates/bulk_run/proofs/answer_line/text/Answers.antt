@@ -9,3 +9,9 @@ returns-in_ok-format-in-NotYet c = rw c.in-NotYet.is (c.in_ok-format-in-NotYet.e
 
 pub returns-in_ok-format-in-RoomFault : goal.returns-in_ok-format-in-RoomFault
 returns-in_ok-format-in-RoomFault c = rw c.in-RoomFault.is (c.in_ok-format-in-RoomFault.ensures.ok ∙ simp append_assoc)
+
+pub returns-in_ok-format-in-DupName : goal.returns-in_ok-format-in-DupName
+returns-in_ok-format-in-DupName c = rw c.in-DupName.is (c.in_ok-format-in-DupName.ensures.ok ∙ simp append_assoc)
+
+pub returns-in_ok-format-in-Gone : goal.returns-in_ok-format-in-Gone
+returns-in_ok-format-in-Gone c = rw c.in-Gone.is (c.in_ok-format-in-Gone.ensures.ok ∙ simp append_assoc)
