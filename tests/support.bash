@@ -8,9 +8,22 @@
 
 # ---- Before the program runs
 
-# port ORIGIN LINE..: a port whose port.vars has these lines.
+# listed ORIGIN: the lists of the tree name the port's category, and the port.
+listed() {
+  list_name tree/ports "${1%%/*}"
+  list_name "tree/ports/${1%%/*}" "${1#*/}"
+}
+
+# list_name FOLDER NAME: the folder's list names it, once.
+list_name() {
+  mkdir -p "$1"
+  grep -q -x -F "SUBDIR+=$2" "$1/subdir.vars" 2>/dev/null || printf 'SUBDIR+=%s\n' "$2" >>"$1/subdir.vars"
+}
+
+# port ORIGIN LINE..: a listed port whose port.vars has these lines.
 port() {
   local folder=tree/ports/$1
+  listed "$1"
   shift
   mkdir -p "$folder"
   printf '%s\n' "$@" >"$folder/port.vars"
@@ -31,6 +44,12 @@ ax() {
 
 # ax_file NAME TEXT: one more file of the port a/x.
 ax_file() { file "tree/ports/a/x/files/$1" "$2"; }
+
+# am LINE..: the port a/m, version 1.0, of the flavors py39 and py311, whose
+# packages begin with the flavor, with these further lines.
+am() {
+  port a/m PORTNAME=m PORTVERSION=1.0 'FLAVORS=py39 py311' py39_PKGNAMEPREFIX=py39- py311_PKGNAMEPREFIX=py311- "$@"
+}
 
 # stored NAME TEXT: a file that is in the store before, and must stay as it is.
 stored() {
@@ -84,9 +103,14 @@ refuses() {
 
 usage='usage: poudriere bulk [-acCnT] [-f path] [-J n] [origin ...]'
 
-# built NODE NAME: the lists of a run that built this one port.
+# The lines that the next `built` expects to be said of words that moved.
+moved=()
+
+# built NODE NAME ..: the lists of a run that built these and no other.
 built() {
-  says 0 'deleted 0' 'kept 0' 'built 1' "  $1 $2" 'failed 0' 'ignored 0' 'skipped 0' 'total 1'
+  local count=$(($# / 2)) entries
+  entries=$(printf '  %s %s\n' "$@")
+  says 0 "${moved[@]}" 'deleted 0' 'kept 0' "built $count" "$entries" 'failed 0' 'ignored 0' 'skipped 0' "total $count"
 }
 
 # failed NODE NAME PHASE CODE: the lists of a run in which it failed.
@@ -94,9 +118,13 @@ failed() {
   says 1 'deleted 0' 'kept 0' 'built 0' 'failed 1' "  $1 $2 $3 $4" 'ignored 0' 'skipped 0' 'total 1'
 }
 
-# want_package NAME ORIGIN: the store must hold this package, whose files are
-# those that stand below ../staged.
-want_package() { "$tests/make_record" "$1" "$2" ../staged >"../want/$1.pkg"; }
+# want_package NAME NODE [OPTION=STATE ..]: the store must hold this package,
+# whose files are those that stand below ../staged.
+want_package() {
+  local name=$1 node=$2
+  shift 2
+  "$tests/make_record" "$name" "$node" ../staged "$@" >"../want/$name.pkg"
+}
 
 # staged PATH TEXT: a file of the expected package.
 staged() { file "../staged/$1" "$2"; }
@@ -125,6 +153,13 @@ stores_agree() {
 again() {
   stores_agree
   rm -rf packages rooms ../want/* ../staged/*
+  moved=()
+}
+
+# anew: as again, and takes the tree away too.
+anew() {
+  again
+  rm -rf tree
 }
 
 # skip REASON: this check cannot be made here.

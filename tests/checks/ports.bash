@@ -11,10 +11,62 @@ check_first_port() {
   [ "$(wc -c <packages/x-1.0.pkg)" = 168 ] || miss 'the record has not 168 bytes'
 }
 
-check_both_phases() {
-  ax 'DO_BUILD=cp work/hello work/made' 'DO_STAGE=cp work/made stage/hello'
+# The phases run in their order, each in what the ones before it left.
+check_all_phases() {
+  ax 'DO_STAGE=cp work/e stage/hello' 'DO_BUILD=mv work/d work/e' 'DO_CONFIGURE=mv work/c work/d' \
+    'DO_PATCH=mv work/b work/c' 'DO_EXTRACT=mv work/hello work/b'
   bulk a/x
   built_with_hello
+}
+
+# A word `;` ends a command; a command without words is none.
+check_commands_of_a_phase() {
+  local commands
+  for commands in 'cp work/hello work/b ; cp work/b stage/hello' '; ; cp work/hello work/b ;  ; cp work/b stage/hello ;' \
+    'sh -c false;true ; cp work/hello stage/hello'; do
+    ax "DO_STAGE=$commands"
+    bulk a/x
+    built_with_hello
+    again
+  done
+}
+
+check_empty_commands() {
+  local commands
+  for commands in ';' '; ;' ';;x'; do
+    ax "DO_STAGE=$commands"
+    bulk a/x
+    if [ "$commands" = ';;x' ]; then
+      failed a/x x-1.0 stage 127
+    else
+      built_empty
+    fi
+    again
+  done
+}
+
+# The command that fails ends its phase and the port: nothing behind it runs.
+check_each_phase_can_fail() {
+  local phase code variable
+  while read -r phase code; do
+    variable=DO_${phase^^}
+    ax 'DO_EXTRACT=true' 'DO_PATCH=true' 'DO_CONFIGURE=true' 'DO_BUILD=true' 'DO_STAGE=true' \
+      "$variable=touch ../../ran-before ; sh work/end $code ; touch ../../ran-behind"
+    [ "$phase" = stage ] || printf 'DO_STAGE=touch ../../ran-behind\n' >>tree/ports/a/x/port.vars
+    ax_file end 'exit $1\n'
+    bulk a/x
+    failed a/x x-1.0 "$phase" "$code"
+    [ -e ran-before ] || miss "nothing ran before the command of $phase"
+    [ ! -e ran-behind ] || miss "something ran behind the command of $phase"
+    rm -f ran-before
+    again
+  done <<'END'
+extract 1
+patch 2
+configure 77
+build 254
+stage 255
+END
 }
 
 check_no_commands() {
@@ -31,12 +83,34 @@ check_port_without_files() {
   want_package x-1.0 a/x
 }
 
-check_package_name_from_variables() {
-  port www/folder.1 PORTNAME=_py-Tool9 PORTVERSION=68.0.a 'DO_STAGE=touch stage/f'
-  bulk www/folder.1
-  built www/folder.1 _py-Tool9-68.0.a
-  staged f ''
-  want_package _py-Tool9-68.0.a www/folder.1
+# names_of_packages: for each line `NAME LINE ..` of standard input, a port with
+# these further lines has a package of this name.
+names_of_packages() {
+  local name lines
+  while read -r name lines; do
+    # shellcheck disable=SC2086
+    port www/folder.1 PORTNAME=x PORTVERSION=1.0 $lines
+    bulk www/folder.1
+    built www/folder.1 "$name"
+    want_package "$name" www/folder.1
+    again
+  done
+}
+
+check_package_names() {
+  names_of_packages <<'END'
+x-1.0 PORTREVISION=0
+x-1.0 PORTEPOCH=0
+x-1.0,1 PORTEPOCH=1
+x-1.0_2 PORTREVISION=2
+x-1.0_2,1 PORTREVISION=2 PORTEPOCH=1
+x-1.0 PORTREVISION= PORTEPOCH= PKGNAMEPREFIX= PKGNAMESUFFIX=
+x-1.0_999999999,999999999 PORTREVISION=999999999 PORTEPOCH=999999999
+_py-Tool9-68.0.a PORTNAME=_py-Tool9 PORTVERSION=68.0.a
+py39-x-nox11-1.0 PKGNAMEPREFIX=py39- PKGNAMESUFFIX=-nox11
+--x+.-1.0+a PKGNAMEPREFIX=-- PKGNAMESUFFIX=+. PORTVERSION=1.0+a
+x.y+-1 PORTNAME=x.y+ PORTVERSION=1
+END
 }
 
 # The files of a package stand in the byte order of their whole paths.

@@ -1,0 +1,181 @@
+# The lists of the tree, and which of its files is told first.
+
+# lists_refuse: for each line `PATH|LINE|KIND|TEXT` of standard input, that file
+# of these bytes beside the port a/x is refused so.
+lists_refuse() {
+  local path line kind text
+  while IFS='|' read -r path line kind text; do
+    rm -rf tree
+    ax
+    file "tree/$path" "$text\n"
+    bulk a/x
+    refuses "poudriere: $path:$line: $kind"
+  done
+}
+
+check_lists_that_are_refused() {
+  lists_refuse <<'END'
+ports/subdir.vars|1|no operator|SUBDIR
+ports/subdir.vars|2|bad name|SUBDIR=a\nX:=1
+ports/subdir.vars|0|bad value of SUBDIR|SUBDIR=a -b
+ports/subdir.vars|0|bad value of SUBDIR|SUBDIR=a a/x
+ports/subdir.vars|0|bad value of SUBDIR|SUBDIR=.
+ports/a/subdir.vars|1|no operator|SUBDIR
+ports/a/subdir.vars|3|bad reference|\n\nSUBDIR=${PORTS}
+ports/a/subdir.vars|0|bad value of SUBDIR|SUBDIR=x .y
+ports/a/subdir.vars|0|bad value of SUBDIR|SUBDIR=x x@py39
+etc/options/a_x/options|2|bad name|OPTIONS_FILE_SET=X\nX:=1
+ports/MOVED|1|bad line|a/y|a/x
+ports/MOVED|2|bad line|# moved\n # a/y
+ports/MOVED|3|bad line|a/y|a/x||\n\na|a/x||
+ports/MOVED|1|bad line|a/y|a|2024|moved
+ports/MOVED|1|bad line||a/x|2024|moved
+ports/MOVED|1|bad line|a/y |a/x|2024|moved
+ports/MOVED|1|bad line|a/y|a/x|2024|\0377
+ports/MOVED|1|bad line|# \0
+END
+}
+
+check_files_that_lists_name_are_absent() {
+  ax
+  rm tree/ports/a/x/port.vars
+  bulk a/x
+  refuses 'poudriere: ports/a/x/port.vars:0: absent'
+  mkdir tree/ports/a/x/port.vars
+  bulk a/x
+  refuses 'poudriere: ports/a/x/port.vars:0: absent'
+  rm tree/ports/a/subdir.vars
+  bulk a/x
+  refuses 'poudriere: ports/a/subdir.vars:0: absent'
+  rm tree/ports/subdir.vars
+  bulk a/x
+  refuses 'poudriere: ports/subdir.vars:0: absent'
+}
+
+# Every port of the tree is read, not only those that are wanted.
+check_faults_of_other_ports() {
+  ax
+  port b/y PORTNAME=y
+  bulk a/x
+  refuses 'poudriere: ports/b/y/port.vars:0: missing PORTVERSION'
+  bulk b/none
+  refuses 'poudriere: ports/b/y/port.vars:0: missing PORTVERSION'
+}
+
+# A port is there only where its category's list names it, and the category is
+# named by the list of categories.
+check_ports_that_no_list_names() {
+  ax
+  port a/y PORTNAME
+  port b/z PORTNAME
+  printf 'SUBDIR=x\n' >tree/ports/a/subdir.vars
+  printf 'SUBDIR=a\n' >tree/ports/subdir.vars
+  local word
+  for word in a/y b/z; do
+    bulk "$word"
+    refuses "poudriere: no origin $word"
+  done
+  bulk a/x
+  built_empty
+}
+
+check_lists_in_other_forms() {
+  local list
+  for list in 'SUBDIR=x' 'SUBDIR= \tx x\t\tx' '# ports\nSUBDIR=\\\n x # y' 'X=x\nSUBDIR+=${X}' 'SUBDIR=\nSUBDIR+=x\nX=y'; do
+    ax
+    file tree/ports/a/subdir.vars "$list"
+    bulk a/x
+    built_empty
+    again
+  done
+}
+
+check_lists_of_nothing() {
+  local list
+  for list in '' '#\n' 'SUBDIR=' 'X=a'; do
+    ax
+    file tree/ports/subdir.vars "$list"
+    bulk a/x
+    refuses 'poudriere: no origin a/x'
+    ax
+    file tree/ports/subdir.vars 'SUBDIR=a\n'
+    file tree/ports/a/subdir.vars "$list"
+    bulk a/x
+    refuses 'poudriere: no origin a/x'
+    rm -r tree
+  done
+}
+
+# fault PATH: a line there that no variable file may have.
+fault() { file "tree/$1" 'X\n'; }
+
+# The files are read in this order, so that with a fault in each of them the
+# first is told. That file is then mended.
+check_order_of_the_files() {
+  ax
+  port a/x-1 PORTNAME=x-1 PORTVERSION=1
+  port a-b/y PORTNAME=y PORTVERSION=1
+  cp -R tree good
+  local path files=(etc/make.conf ports/subdir.vars ports/MOVED ports/a/subdir.vars etc/options/a_x/options
+    ports/a/x/port.vars etc/options/a_x-1/options ports/a/x-1/port.vars ports/a-b/subdir.vars
+    etc/options/a-b_y/options ports/a-b/y/port.vars)
+  for path in "${files[@]}"; do fault "$path"; done
+  for path in "${files[@]}"; do
+    bulk b/none
+    case $path in
+      ports/MOVED) refuses "poudriere: $path:1: bad line" ;;
+      *) refuses "poudriere: $path:1: no operator" ;;
+    esac
+    rm "tree/$path"
+    [ ! -e "good/$path" ] || cp "good/$path" "tree/$path"
+  done
+  bulk a/x
+  built_empty
+}
+
+check_two_ports_of_one_name() {
+  ax
+  port a/y PORTNAME=x PORTVERSION=1.0
+  bulk a/x
+  refuses 'poudriere: a/x and a/y are both x-1.0'
+  bulk b/none
+  refuses 'poudriere: a/x and a/y are both x-1.0'
+  port a/w PORTNAME=w PORTVERSION=1
+  port a/z PORTNAME=x PORTVERSION=1.0
+  port b/v PORTNAME=w PORTVERSION=1
+  bulk a/x
+  refuses 'poudriere: a/w and b/v are both w-1'
+}
+
+check_two_flavors_of_one_name() {
+  am py39_PKGNAMEPREFIX=py311-
+  bulk a/m
+  refuses 'poudriere: a/m@py311 and a/m@py39 are both py311-m-1.0'
+}
+
+# Packages of one name are found whether or not their ports would be built.
+check_two_ports_of_one_name_ignored() {
+  ax IGNORE=no
+  port a/y PORTNAME=x PORTVERSION=1.0 BROKEN=yes
+  bulk b/none
+  refuses 'poudriere: a/x and a/y are both x-1.0'
+}
+
+# A tree has at most 16,384 nodes. Here eight ports have 2,048 flavors each, all
+# with packages of one name.
+check_most_nodes() {
+  local first=(a b c d e f g h) second=({a..z} {0..5}) third=({a..z} {0..5}) one two three port
+  for one in "${first[@]:0:2}"; do
+    for two in "${second[@]}"; do
+      for three in "${third[@]}"; do printf '%s%s%s ' "$one" "$two" "$three"; done
+    done >"flavors.$one"
+  done
+  for port in "${first[@]}"; do
+    port "a/$port" PORTNAME=x PORTVERSION=1 "FLAVORS=$(cat flavors.a)" "FLAVORS+=$(cat flavors.b)"
+  done
+  bulk b/none
+  refuses 'poudriere: a/a@a00 and a/a@a01 are both x-1'
+  port a/i PORTNAME=x PORTVERSION=1
+  bulk b/none
+  refuses 'poudriere: limit Nodes: 16385'
+}
