@@ -51,28 +51,58 @@ check_name_with_a_line_feed() {
   tree_fails
 }
 
-# Every listed folder counts: those that are looked into before the port, too.
-check_bad_names_in_other_listed_folders() {
+# Every listed folder counts: that which is looked into before the port, too.
+check_bad_names_below_base() {
   ax 'DO_STAGE=cp work/hello stage/hello'
+  mkdir -p tree/base
+  ln -s nowhere tree/base/link
+  bulk a/x
+  tree_fails
+}
+
+# Folders that are not listed are not looked into: those of ports that are not
+# wanted, and those of which only one file is read.
+check_bad_names_elsewhere() {
+  ax 'DO_STAGE=cp work/hello stage/hello'
+  port a/y PORTNAME=y PORTVERSION=1
+  mkdir -p tree/ports/a/y/files tree/ports/b tree/distfiles tree/etc/options/a_x
   local folder
-  for folder in tree/etc/options tree/base; do
-    mkdir -p "$folder"
+  for folder in tree tree/ports tree/ports/a tree/ports/a/x tree/ports/a/y/files tree/ports/b tree/distfiles tree/etc \
+    tree/etc/options tree/etc/options/a_x; do
     ln -s nowhere "$folder/link"
-    bulk a/x
-    tree_fails
-    rm "$folder/link"
+  done
+  bulk a/x
+  built_with_hello
+}
+
+# A file that is a link to nothing, or one in a circle, cannot be read. That is
+# told at the file's place among the refusals.
+check_files_that_cannot_be_read() {
+  local path to files=(etc/make.conf etc/poudriere.conf ports/subdir.vars ports/MOVED ports/a/subdir.vars
+    etc/options/a_x/options ports/a/x/port.vars)
+  for path in "${files[@]}"; do
+    for to in nowhere "${path##*/}"; do
+      rm -rf tree
+      ax
+      port a/y PORTNAME
+      mkdir -p "tree/${path%/*}"
+      ln -s -f "$to" "tree/$path"
+      bulk b/none
+      tree_fails
+    done
   done
 }
 
-# Folders that are not listed are not looked into.
-check_bad_names_elsewhere() {
-  ax 'DO_STAGE=cp work/hello stage/hello'
-  mkdir -p tree/ports/a/y/files tree/distfiles
-  ln -s nowhere tree/ports/a/y/files/link
-  ln -s nowhere tree/distfiles/link
-  ln -s nowhere tree/ports/a/link
+check_fault_behind_a_refusal() {
+  ax PORTNAME=/
+  ln -s nowhere tree/ports/a/x/files/link
   bulk a/x
-  built_with_hello
+  refuses 'poudriere: ports/a/x/port.vars:0: bad value of PORTNAME'
+  ax
+  bulk b/none a/x
+  refuses 'poudriere: no origin b/none'
+  bulk a/x
+  tree_fails
 }
 
 check_links_are_read_through() {
@@ -92,6 +122,20 @@ check_fifo_in_the_tree_is_left_out() {
   mkfifo tree/ports/a/x/files/pipe
   bulk a/x
   built_with_hello
+}
+
+# A fifo, too, is no file: what it would say is as absent.
+check_fifos_in_the_place_of_files() {
+  ax
+  mkdir -p tree/etc/options/a_x
+  mkfifo tree/etc/make.conf tree/etc/poudriere.conf tree/etc/options/a_x/options tree/ports/MOVED
+  bulk a/x
+  built_empty
+  again
+  rm tree/ports/a/x/port.vars
+  mkfifo tree/ports/a/x/port.vars
+  bulk a/x
+  refuses 'poudriere: ports/a/x/port.vars:0: absent'
 }
 
 # A plain file has no file below it.

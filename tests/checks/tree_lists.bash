@@ -162,19 +162,15 @@ check_two_ports_of_one_name_ignored() {
 }
 
 # A tree has at most 16,384 nodes. Here eight ports have 2,048 flavors each, all
-# with packages of one name.
+# with packages of one name, so that the nodes are counted before names are.
 check_most_nodes() {
-  local first=(a b c d e f g h) second=({a..z} {0..5}) third=({a..z} {0..5}) one two three port
-  for one in "${first[@]:0:2}"; do
-    for two in "${second[@]}"; do
-      for three in "${third[@]}"; do printf '%s%s%s ' "$one" "$two" "$three"; done
-    done >"flavors.$one"
-  done
-  for port in "${first[@]}"; do
-    port "a/$port" PORTNAME=x PORTVERSION=1 "FLAVORS=$(cat flavors.a)" "FLAVORS+=$(cat flavors.b)"
+  local port
+  for port in a b c d e f g h; do
+    port "a/$port" PORTNAME=x PORTVERSION=1 "FLAVORS=$(echo x{{a..z},{0..5}}{{a..z},{0..5}})" \
+      "FLAVORS+=$(echo y{{a..z},{0..5}}{{a..z},{0..5}})"
   done
   bulk b/none
-  refuses 'poudriere: a/a@a00 and a/a@a01 are both x-1'
+  refuses 'poudriere: a/a@x00 and a/a@x01 are both x-1'
   port a/i PORTNAME=x PORTVERSION=1
   bulk b/none
   refuses 'poudriere: limit Nodes: 16385'
