@@ -30,7 +30,7 @@ timed() {
 }
 
 # median FILE: the mean of the two in the middle of an even number of times.
-median() { sort -n "$1" | awk '{ t[NR] = $1 } END { print (t[int((NR + 1) / 2)] + t[int(NR / 2) + 1]) / 2 }'; }
+median() { sort -n "$1" | awk '{ t[NR] = $1 } END { printf "%d\n", (t[int((NR + 1) / 2)] + t[int(NR / 2) + 1]) / 2 }'; }
 
 # within NUMBER BOUND: whether the number is at most the bound.
 within() { awk -v number="$1" -v bound="$2" 'BEGIN { exit !(number <= bound) }'; }
