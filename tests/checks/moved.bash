@@ -76,7 +76,7 @@ check_last_line_counts() {
   built_with_hello
 }
 
-check_settings_of_a_name_that_is_there() {
+check_words_that_moved_to_a_flavor() {
   with_moved
   bulk a/m@py2 a/old
   moved=('moved a/m@py2 a/m@py39' 'moved a/old a/m@py39')
@@ -127,7 +127,7 @@ check_variables_of_a_flavor() {
 }
 
 check_flavors_that_are_refused() {
-  local flavors bad
+  local flavors bad long
   while IFS='|' read -r bad flavors; do
     ax "FLAVORS=$flavors"
     bulk b/none

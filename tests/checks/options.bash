@@ -36,7 +36,7 @@ check_layers_of_options() {
   states DOCS=off
 }
 
-# The record written out, so that nothing here computes it.
+# The lines of the record written out, so that what writes the others is checked too.
 check_record_with_an_option() {
   ax OPTIONS_DEFINE=DOCS OPTIONS_DEFAULT=DOCS 'DO_STAGE=cp work/hello stage/hello'
   bulk a/x

@@ -178,6 +178,16 @@ check_first_file_too_large() {
   refuses 'poudriere: ports/a/x/files/a-b: not yet'
 }
 
+# The files of a port that is not wanted are not read.
+check_file_too_large_of_another_port() {
+  ax 'DO_STAGE=cp work/hello stage/hello'
+  port a/y PORTNAME=y PORTVERSION=1
+  mkdir tree/ports/a/y/files
+  head -c 4194305 /dev/zero >tree/ports/a/y/files/big
+  bulk a/x
+  built_with_hello
+}
+
 check_largest_file() {
   ax 'DO_STAGE=cp work/hello stage/hello'
   head -c 4194304 /dev/zero >tree/ports/a/x/files/big

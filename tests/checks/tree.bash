@@ -93,15 +93,39 @@ check_files_that_cannot_be_read() {
   done
 }
 
+# A port's files are listed behind all refusals of the tree, of the words and of
+# what the wanted ports say, and before the store is.
 check_fault_behind_a_refusal() {
   ax PORTNAME=/
   ln -s nowhere tree/ports/a/x/files/link
+  port a/y PORTNAME=y PORTVERSION=1 IGNORE=no
+  stored a.pkg ''
   bulk a/x
   refuses 'poudriere: ports/a/x/port.vars:0: bad value of PORTNAME'
   ax
   bulk b/none a/x
   refuses 'poudriere: no origin b/none'
+  bulk a/y a/x
+  refuses 'poudriere: ports/a/y/port.vars: not yet'
   bulk a/x
+  tree_fails
+}
+
+# The files of the wanted ports are read in the order of their nodes.
+check_fault_behind_a_large_file() {
+  ax
+  port a/y PORTNAME=y PORTVERSION=1
+  mkdir tree/ports/a/y/files
+  ln -s nowhere tree/ports/a/y/files/link
+  head -c 4194305 /dev/zero >tree/ports/a/x/files/big
+  bulk a/y a/x
+  refuses 'poudriere: ports/a/x/files/big: not yet'
+  bulk a/y
+  tree_fails
+  mv tree/ports/a/x/files/big tree/ports/a/y/files/big
+  rm tree/ports/a/y/files/link
+  ln -s nowhere tree/ports/a/x/files/link
+  bulk a/y a/x
   tree_fails
 }
 

@@ -162,7 +162,8 @@ check_two_ports_of_one_name_ignored() {
 }
 
 # A tree has at most 16,384 nodes. Here eight ports have 2,048 flavors each, all
-# with packages of one name, so that the nodes are counted before names are.
+# with packages of one name. Nodes are counted behind all files, and before names
+# are compared.
 check_most_nodes() {
   local port
   for port in a b c d e f g h; do
@@ -174,4 +175,7 @@ check_most_nodes() {
   port a/i PORTNAME=x PORTVERSION=1
   bulk b/none
   refuses 'poudriere: limit Nodes: 16385'
+  port z/z PORTNAME
+  bulk b/none
+  refuses 'poudriere: ports/z/z/port.vars:1: no operator'
 }
