@@ -20,11 +20,11 @@ check_files_not_yet() {
   built_with_hello
 }
 
-# What is refused is refused before all that stands behind it in this order, so
-# each cause is there until the refusals before it were seen.
-check_order_of_refusals() {
+# every_cause: a tree, a store and a place of the rooms with a cause for each
+# refusal, but for the usage line.
+every_cause() {
   ax
-  port a/y PORTNAME=x PORTVERSION=1.0 'RUN_DEPENDS=x:a/x'
+  port a/y PORTNAME=x PORTVERSION=1.0 RUN_DEPENDS=x:a/x
   port a/z PORTNAME
   file tree/etc/make.conf 'X:=1\n'
   file tree/etc/poudriere.conf ''
@@ -33,37 +33,39 @@ check_order_of_refusals() {
   stored b.pkg b
   stored a.pkg a
   file rooms ''
-  run bulk
-  says 2 "$usage"
-  each_in_turn
 }
 
-# each_in_turn: mends the first cause that is left, again and again.
-each_in_turn() {
-  local mend line
-  while IFS='|' read -r mend line; do
-    bulk a/x a/y b/none a/x@py39
-    says 2 "$line"
-    eval "$mend"
-  done <<'END'
-rm tree/etc/make.conf|poudriere: etc/make.conf:1: bad name
-rm tree/etc/poudriere.conf|poudriere: etc/poudriere.conf: not yet
-rm tree/base/f|poudriere: base/f: not yet
-port a/z PORTNAME=z PORTVERSION=1|poudriere: ports/a/z/port.vars:1: no operator
-port a/y PORTNAME=y PORTVERSION=1 RUN_DEPENDS=x:a/x|poudriere: a/x and a/y are both x-1.0
-END
-  bulk a/x a/y b/none a/x@py39
-  says 2 'poudriere: no origin b/none'
-  bulk a/y a/x
-  says 2 'poudriere: ports/a/y/port.vars: not yet'
+# first_is LINE WORD ..: a run with these words is refused so.
+first_is() {
+  local line=$1
+  shift
+  bulk "$@"
+  says 2 "poudriere: $line"
+}
+
+# Each refusal comes before those whose causes stand behind it here.
+check_order_of_refusals() {
+  every_cause
+  run bulk
+  says 2 "$usage"
+  first_is 'etc/make.conf:1: bad name' a/y b/none
+  rm tree/etc/make.conf
+  first_is 'etc/poudriere.conf: not yet' a/y b/none
+  rm tree/etc/poudriere.conf
+  first_is 'base/f: not yet' a/y b/none
+  rm tree/base/f
+  first_is 'ports/a/z/port.vars:1: no operator' a/y b/none
+  port a/z PORTNAME=z PORTVERSION=1
+  first_is 'a/x and a/y are both x-1.0' a/y b/none
+  port a/y PORTNAME=y PORTVERSION=1 RUN_DEPENDS=x:a/x
+  first_is 'no origin b/none' a/y b/none
+  first_is 'ports/a/y/port.vars: not yet' a/y a/x
   port a/y PORTNAME=y PORTVERSION=1
-  bulk a/y a/x
-  says 2 'poudriere: ports/a/x/files/big: not yet'
+  first_is 'ports/a/x/files/big: not yet' a/y a/x
   rm tree/ports/a/x/files/big
-  bulk a/x
-  says 2 'poudriere: a.pkg: not yet'
+  first_is 'a.pkg: not yet' a/y a/x
   rm packages/*.pkg ../want/*.pkg
-  bulk a/x
+  bulk a/y a/x
   says 3 'poudriere: room 0 failed'
 }
 
