@@ -5,3 +5,6 @@ pub mod WordsSoFar
 pub mod LinesSoFar
 pub mod MapView
 pub mod Paths
+pub mod TextTests
+pub mod Above
+pub mod Sizes

@@ -1,17 +1,17 @@
 -- One path below another.
-use Rattle.std.proofs.Common.{◌≡◌, ℕ, ◌+◌, ◌-◌, ◌<◌, ◌≤◌, Bool, true, false, List, [], ◌∷◌, ◌++◌, length, get_or, take, drop, arith, ◌∙◌, sym, ap, refl, nat_eq, zero, suc}
+use Rattle.std.proofs.Common.{◌≡◌, ℕ, ◌+◌, ◌-◌, ◌<◌, ◌≤◌, Bool, true, false, List, [], ◌∷◌, ◌++◌, length, get_or, take, drop, arith, ◌∙◌, sym, ap, refl, nat_eq}
 use Rattle.std.specs.Prelude.{cond, ◌&&◌}
 use Rattle.std.specs.List.{slice_split, onto_first, list_all, starts_with}
 use Rattle.std.proofs.lemmas.List.{append_assoc, length-append, length-drop, get_or_at, take_rest}
-use Rattle.std.proofs.lemmas.Str.{IsCharBoundary-after_ascii, IsUtf8-drop, IsUtf8-from_ascii, is_utf8-from_IsUtf8, IsUtf8-from_is_utf8}
-use Rattle.std.specs.Str.{IsCharBoundary, is_utf8, IsAscii}
+use Rattle.std.proofs.lemmas.Str.{IsCharBoundary-after_ascii, IsUtf8-drop, is_utf8-from_IsUtf8}
+use Rattle.std.specs.Str.{IsCharBoundary, is_utf8}
 use Rattle.bulk_base.proofs.TextBytes.{list_all-drop}
 use Rattle.std.proofs.lemmas.List.Folds.{list_all-append}
 use Rattle.std.proofs.lemmas.List.Splits.{length-slice_split}
 use Rattle.std.proofs.Math.Bool.{and_assoc}
 use Rattle.std.proofs.lemmas.Bool.Decides.{nat_tests, Decides-eqb}
 use Rattle.std.proofs.lemmas.Slice.Eq.{starts_is}
-use Rattle.bulk_base.specs.Text.{is_text_byte, has_text_bytes, is_text, is_plain_text, IsText}
+use Rattle.bulk_base.specs.Text.{is_text_byte, has_text_bytes, is_text, IsText}
 use Rattle.bulk_base.specs.Path.{is_slash, parts, is_part, is_path, joined, is_below}
 
 onto_first-append : {X : Type 0} (x : X) (front back : List (List X)) → 0 < length front → onto_first x (front ++ back) ≡ onto_first x front ++ back
@@ -84,21 +84,3 @@ is_text-below folder path h form =
 -- the rest as a slice of the bytes gives it
 pub rest_as_slice : (bytes path front folder : List ℕ) → bytes ≡ path → front ≡ folder → take (length bytes - (length front + 1)) (drop (length front + 1) bytes) ≡ drop (length folder + 1) path
 rest_as_slice bytes path front folder e f = take_rest bytes (length front + 1) ∙ ap (λ b. drop (length front + 1) b) e ∙ ap (λ g. drop (length g + 1) path) f
-
-pub IsText-from_is_text : (bytes : List ℕ) → is_text bytes ≡ true → IsText bytes
-IsText-from_is_text bytes h = (IsUtf8-from_is_utf8 bytes (grind arith), grind arith)
-
-plain_is_ascii : (bytes : List ℕ) → is_plain_text bytes ≡ true → IsAscii bytes
-plain_is_ascii [] h i = omega arith
-plain_is_ascii (b ∷ bytes) h zero = grind (arith, nat_tests)
-plain_is_ascii (b ∷ bytes) h (suc i) = plain_is_ascii bytes (grind arith) i
-
-plain_is_text : (bytes : List ℕ) → is_plain_text bytes ≡ true → has_text_bytes bytes ≡ true
-plain_is_text [] h = refl
-plain_is_text (b ∷ bytes) h = let rest : has_text_bytes bytes ≡ true = plain_is_text bytes (grind arith) in grind arith
-
-pub is_text-plain : (bytes : List ℕ) → is_plain_text bytes ≡ true → is_text bytes ≡ true
-is_text-plain bytes h =
-    let utf8 : is_utf8 bytes ≡ true = is_utf8-from_IsUtf8 bytes (IsUtf8-from_ascii bytes (plain_is_ascii bytes h)) in
-    let text : has_text_bytes bytes ≡ true = plain_is_text bytes h in
-    grind arith

@@ -1,5 +1,5 @@
 // Copies of texts and of switches.
-ghost use Rattle.std.specs.Prelude.{◌≡◌, IfOk};
+ghost use Rattle.std.specs.Prelude.{◌≡◌, ◌++◌, IfOk, OnOk};
 ghost use Rattle.std.specs.Option.{option_copied};
 
 use crate::file::{Switch, Switches};
@@ -17,14 +17,22 @@ pub fn copy_of(alloc: Global, text: Option<&Text>) -> Result<Option<Text>, NoMem
     }
 }
 
+/// Puts copies of texts at the end of a list, in their order. Costs their bytes.
+pub fn add_copies(alloc: Global, texts: &[Text], found: &mut Texts) -> Result<(), NoMemory>
+    ensures { OnOk result (found.new ≡ found.old ++ texts.now) }
+{
+    for text in texts {
+        found.push(text.copy(alloc)?)?;
+    }
+    Ok(())
+}
+
 /// Copies of texts, in their order. Costs their bytes.
 pub fn copies(alloc: Global, texts: &[Text]) -> Result<Texts, NoMemory>
     ensures { IfOk result (λ copies. copies ≡ texts.now) }
 {
     let mut found = Sequence::new(alloc);
-    for text in texts {
-        found.push(text.copy(alloc)?)?;
-    }
+    add_copies(alloc, texts, &mut found)?;
     Ok(found)
 }
 

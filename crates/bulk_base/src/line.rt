@@ -1,7 +1,7 @@
 // The lines of a file.
 ghost use Rattle.std.specs.Prelude.{◌≡◌, ◌<◌, ◌≤◌, ◌-◌, length, take, drop, All, IfOk, OnOk, ◌++◌, ◌∷◌, []};
 ghost use Rattle.std.specs.Str.Lines.{lines as lines_of, strip_carriage_return};
-ghost use Rattle.bulk_base.specs.Lines.{cut_at, IsSpanWithin};
+ghost use Rattle.bulk_base.specs.Lines.{bytes_at, cut_at, IsSpanWithin};
 
 use crate::sequence::{NoMemory, Sequence};
 use std::alloc::Global;
@@ -17,6 +17,40 @@ pub struct Span {
 
 /// A list of spans.
 pub type Spans = Sequence<Span>;
+
+/// What stands behind a place; nothing, where the place is past the end.
+fn behind(bytes: &[u8], place: usize) -> &[u8]
+    ensures { result.now ≡ drop place bytes.now }
+{
+    if place <= bytes.len() {
+        &bytes[place..]
+    } else {
+        &bytes[bytes.len()..]
+    }
+}
+
+/// So many of the first bytes; all, where there are fewer.
+fn first(bytes: &[u8], most: usize) -> &[u8]
+    ensures { result.now ≡ take most bytes.now }
+{
+    if most <= bytes.len() {
+        &bytes[..most]
+    } else {
+        bytes
+    }
+}
+
+impl Span {
+    /// The part of a file that the span is; what of it lies past the file's end is left out. Takes no memory.
+    pub fn of<'a>(&self, bytes: &'a [u8]) -> &'a [u8]
+        ensures { result.now ≡ bytes_at bytes.now self.now }
+    {
+        first(
+            behind(bytes, self.from as usize),
+            self.to.saturating_sub(self.from) as usize,
+        )
+    }
+}
 
 fn end_of_line(bytes: &[u8], start: usize, newline: usize) -> usize
     requires order { start ≤ newline }

@@ -26,6 +26,7 @@ fn forms(rt: HostRuntime) -> Result<(), Fail> {
         let text = Text::from_bytes(alloc, bytes);
         assert_eq!(rt; matches!(text, Err(TextError::NotText)), !is_text);
         assert_eq!(rt; text.is_ok(), is_text);
+        assert_eq!(rt; super::is_text(bytes), is_text);
     }
     for (bytes, is_path) in [
         (b"a".as_slice(), true),
@@ -115,6 +116,32 @@ fn pieces(rt: HostRuntime) -> Result<(), Fail> {
         for (span, (from, to)) in found.iter().zip(spans) {
             assert!(rt; span.from == *from && span.to == *to);
         }
+    }
+    Ok(())
+}
+
+#[test]
+fn parts(rt: HostRuntime) -> Result<(), Fail> {
+    for (from, to, part) in [
+        (0, 2, b"ab".as_slice()),
+        (1, 1, b"".as_slice()),
+        (2, 3, b"c".as_slice()),
+        (2, 1, b"".as_slice()),
+        (1, 4, b"bc".as_slice()),
+        (4, 5, b"".as_slice()),
+    ] {
+        assert!(rt; Span { from, to }.of(b"abc") == part);
+    }
+    for (bytes, trimmed, from_start) in [
+        (
+            b" \ta b\t ".as_slice(),
+            b"a b".as_slice(),
+            b"a b\t ".as_slice(),
+        ),
+        (b" \t".as_slice(), b"".as_slice(), b"".as_slice()),
+        (b"\ra".as_slice(), b"\ra".as_slice(), b"\ra".as_slice()),
+    ] {
+        assert!(rt; trim(bytes) == trimmed && trim_start(bytes) == from_start);
     }
     Ok(())
 }

@@ -55,6 +55,19 @@ fn has_text_bytes(bytes: &[u8]) -> bool
     bytes.iter().all(|b| *b != 0 && *b != b'\n')
 }
 
+fn is_utf8(bytes: &[u8]) -> bool
+    ensures { result ≡ Rattle.std.specs.Str.is_utf8 bytes.now }
+{
+    str::from_utf8(bytes).is_ok()
+}
+
+/// Whether bytes are a text: UTF-8 without NUL and line feed. One pass over the bytes; takes no memory.
+pub fn is_text(bytes: &[u8]) -> bool
+    ensures { result ≡ Rattle.bulk_base.specs.Text.is_text bytes.now }
+{
+    is_utf8(bytes) && has_text_bytes(bytes)
+}
+
 impl Text {
     /// The text with these bytes. NotText exactly where they are not UTF-8 or hold NUL or a line feed.
     pub fn from_bytes(alloc: Global, bytes: &[u8]) -> Result<Text, TextError>

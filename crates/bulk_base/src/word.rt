@@ -7,7 +7,8 @@ use crate::sequence::{NoMemory, Sequence};
 use crate::text::{Text, Texts};
 use std::alloc::Global;
 
-fn is_blank(byte: u8) -> bool
+/// Whether a byte is a space or a tab.
+pub fn is_blank(byte: u8) -> bool
     ensures { result ≡ Rattle.bulk_base.specs.Words.is_blank byte }
 {
     byte == b' ' || byte == b'\t'

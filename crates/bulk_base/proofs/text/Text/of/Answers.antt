@@ -1,5 +1,5 @@
 use Rattle.std.proofs.Common.{◌∙◌, ap, Err}
-use Rattle.bulk_base.proofs.Paths.{IsText-from_is_text}
+use Rattle.bulk_base.proofs.TextTests.{IsText-from_is_text}
 use Rattle.bulk_base.proofs.text.Text.of.Goals as goal
 
 pub unreachable-requires : goal.unreachable-requires

@@ -1,4 +1,4 @@
--- Texts without the blanks at their ends (docs/FORMATS.md, "Variable files").
+-- Texts without the blanks at their ends (docs/FORMATS.md).
 use Rattle.std.specs.Prelude.{ℕ, List, [], ◌∷◌, reverse, if◌then◌else◌}
 use Rattle.bulk_base.specs.Words.{is_blank}
 

@@ -1,6 +1,6 @@
 use Rattle.std.proofs.Common.{◌≡◌, ◌≤◌, length, take}
-use Rattle.port_vars.specs.Trim.{trim_end}
-use Rattle.port_vars.proofs.trim.trim_end.Given as goal
+use Rattle.bulk_base.specs.Trim.{trim_end}
+use Rattle.bulk_base.proofs.trimming.trim_end.Given as goal
 
 abbrev pub invariant-loop-end : goal.invariant-loop-end
 invariant-loop-end l = record { within : l.end ≤ length l.text; same : trim_end (take l.end l.text) ≡ trim_end l.text }

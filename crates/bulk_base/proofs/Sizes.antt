@@ -1,9 +1,9 @@
--- A file has no more lines than bytes.
-use Rattle.std.proofs.Common.{◌≡◌, ℕ, ◌+◌, ◌≤◌, ◌<◌, Bool, true, false, List, [], ◌∷◌, length, cond, ap, sym, ◌∙◌, arith}
+-- A file has no more lines than bytes, and its spans are its lines.
+use Rattle.std.proofs.Common.{◌≡◌, ℕ, ◌+◌, ◌≤◌, ◌<◌, Bool, true, false, List, [], ◌∷◌, length, get_or, cond, ap, sym, ◌∙◌, arith}
 use Rattle.std.specs.Prelude.{◌==◌}
 use Rattle.std.specs.List.{slice_split, onto_first}
 use Rattle.std.specs.Str.Lines.{lines, lines_of_parts}
-use Rattle.std.proofs.lemmas.List.{length-map}
+use Rattle.std.proofs.lemmas.List.{length-map, get_or-map}
 use Rattle.std.proofs.lemmas.List.Splits.{length-slice_split}
 use Rattle.bulk_base.specs.declared.line.Span.{Span}
 use Rattle.bulk_base.specs.Lines.{cut_at, bytes_at}
@@ -38,3 +38,11 @@ length-lines (x ∷ bytes) =
 
 pub spans_are : (bytes : List ℕ) (spans : List Span) → cut_at bytes spans ≡ lines bytes → length spans ≡ length (lines bytes)
 spans_are bytes spans e = sym (length-map spans (bytes_at bytes)) ∙ ap length e
+
+abbrev first_span : Span
+first_span = record { from = 0; to = 0 }
+
+pub line_is : (bytes : List ℕ) (spans items : List Span) (at : ℕ) (line : List ℕ) → cut_at bytes spans ≡ lines bytes → items ≡ spans → at < length spans
+    → line ≡ bytes_at bytes (get_or items at first_span) → line ≡ get_or (lines bytes) at line
+line_is bytes spans items at line cut same l e =
+    e ∙ ap (λ s. bytes_at bytes (get_or s at first_span)) same ∙ sym (get_or-map (bytes_at bytes) spans at first_span line l) ∙ ap (λ l. get_or l at line) cut

@@ -1,16 +1,11 @@
 // Texts without the blanks at their ends.
 ghost use Rattle.std.specs.Prelude.{◌≡◌};
-ghost use Rattle.bulk_base.specs.Words.{is_blank};
-ghost use Rattle.port_vars.specs.Trim.{trim_start, trim_end, trim};
+ghost use Rattle.bulk_base.specs.Trim.{trim_start, trim_end, trim};
 
-fn is_blank(byte: u8) -> bool
-    ensures { result ≡ is_blank byte }
-{
-    byte == b' ' || byte == b'\t'
-}
+use crate::word::is_blank;
 
-/// A text without its leading blanks.
-pub(crate) fn trim_start(text: &[u8]) -> &[u8]
+/// A text without its leading blanks. Costs the blanks.
+pub fn trim_start(text: &[u8]) -> &[u8]
     ensures { result.now ≡ trim_start text.now }
 {
     for at in 0..text.len() {
@@ -31,9 +26,9 @@ fn trim_end(text: &[u8]) -> &[u8]
     &text[..end]
 }
 
-/// A text without the blanks at its ends.
+/// A text without the blanks at its ends. Costs the blanks.
 #[tactic(auto, unfolding(crate::specs::Trim::trim))]
-pub(crate) fn trim(text: &[u8]) -> &[u8]
+pub fn trim(text: &[u8]) -> &[u8]
     ensures { result.now ≡ trim text.now }
 {
     trim_end(trim_start(text))
