@@ -8,3 +8,4 @@ pub mod Paths
 pub mod TextTests
 pub mod Above
 pub mod Sizes
+pub mod Places

@@ -8,6 +8,7 @@ mod line;
 mod numeral;
 mod path;
 mod path_map;
+mod place;
 mod sequence;
 #[cfg(test)]
 mod tests;
@@ -22,6 +23,7 @@ pub use line::{Span, Spans, lines};
 pub use numeral::{decimal, number};
 pub use path::{Path, PathError, Paths};
 pub use path_map::PathMap;
+pub use place::place_or_end;
 pub use sequence::{Bytes, NoMemory, Sequence};
 pub use text::{Text, TextError, Texts, is_text};
 pub use text_map::TextMap;

@@ -132,6 +132,9 @@ fn parts(rt: HostRuntime) -> Result<(), Fail> {
     ] {
         assert!(rt; Span { from, to }.of(b"abc") == part);
     }
+    for (byte, place) in [(b'a', 0), (b'b', 1), (b'c', 3)] {
+        assert_eq!(rt; place_or_end(b"abb", byte), place);
+    }
     for (bytes, trimmed, from_start) in [
         (
             b" \ta b\t ".as_slice(),

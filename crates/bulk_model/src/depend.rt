@@ -1,4 +1,7 @@
 // Dependencies as a job and a package list them.
+ghost use Rattle.std.specs.Prelude.{◌≡◌};
+ghost use Rattle.bulk_model.specs.Facts.{kind_number};
+
 use bulk_base::{Sequence, Text};
 
 /// What a dependency is needed for, in the order in which the variables are read (Porter's Handbook, "Dependencies").
@@ -18,6 +21,23 @@ pub enum DepKind {
     Lib,
     /// To run: RUN_DEPENDS.
     Run,
+}
+
+impl DepKind {
+    /// The kind's place in the order in which the variables are read, from 0.
+    pub fn number(self) -> u8
+        ensures { result ≡ kind_number self }
+    {
+        match self {
+            DepKind::Pkg => 0,
+            DepKind::Fetch => 1,
+            DepKind::Extract => 2,
+            DepKind::Patch => 3,
+            DepKind::Build => 4,
+            DepKind::Lib => 5,
+            DepKind::Run => 6,
+        }
+    }
 }
 
 /// A dependency: its kind, the node that is needed and that node's package name.

@@ -8,7 +8,7 @@ use Rattle.std.specs.declared.cmp.Ordering.TheVariants.{Less, Equal}
 use Rattle.std.specs.List.{list_all, AllByRecursion, starts_with}
 use Rattle.std.specs.List.Sorted.{IsStrictlySortedBy}
 use Rattle.std.proofs.lemmas.List.Folds.{list_all-append}
-use Rattle.std.proofs.lemmas.Bool.{and_parts}
+use Rattle.std.proofs.lemmas.Bool.{and_parts, and_from}
 use Rattle.std.proofs.lemmas.Bool.Decides.{nat_tests}
 use Rattle.bulk_base.specs.Path.{is_below, joined, collides}
 use Rattle.bulk_base.proofs.Paths.{below_is_joined}
@@ -20,19 +20,16 @@ pub record IsPathList (paths : List (List ℕ)) : Type 0 where
   pub apart : has_no_folder paths ≡ true
 
 -- what a test says of all
-both : (a b : Bool) → a ≡ true → b ≡ true → (a && b) ≡ true
-both a b p q = grind arith
-
 pub list_all_weaker : {X : Type 0} (p q : X → Bool) (xs : List X) → ((x : X) → p x ≡ true → q x ≡ true) → list_all p xs ≡ true → list_all q xs ≡ true
 list_all_weaker p q [] w h = refl
-list_all_weaker p q (x ∷ xs) w h = let k = and_parts (p x) (list_all p xs) h in both _ _ (w x k.0) (list_all_weaker p q xs w k.1)
+list_all_weaker p q (x ∷ xs) w h = let k = and_parts (p x) (list_all p xs) h in and_from _ _ (w x k.0) (list_all_weaker p q xs w k.1)
 
 pub list_all_both : {X : Type 0} (p q : X → Bool) (xs : List X) → list_all p xs ≡ true → list_all q xs ≡ true → list_all (λ x. p x && q x) xs ≡ true
 list_all_both p q [] h k = refl
 list_all_both p q (x ∷ xs) h k =
     let a = and_parts (p x) (list_all p xs) h in
     let b = and_parts (q x) (list_all q xs) k in
-    both _ _ (both _ _ a.0 b.0) (list_all_both p q xs a.1 b.1)
+    and_from _ _ (and_from _ _ a.0 b.0) (list_all_both p q xs a.1 b.1)
 
 pub parts_of_all : {X : Type 0} (p : X → Bool) (front : List X) (x : X) (back : List X) → list_all p (front ++ x ∷ back) ≡ true → (list_all p front ≡ true) × (p x ≡ true) × (list_all p back ≡ true)
 parts_of_all p front x back h =
@@ -41,7 +38,7 @@ parts_of_all p front x back h =
     (k.0, m.0, m.1)
 
 list_all-left_out : {X : Type 0} (p : X → Bool) (front : List X) (x : X) (back : List X) → list_all p (front ++ x ∷ back) ≡ true → list_all p (front ++ back) ≡ true
-list_all-left_out p front x back h = let k = parts_of_all p front x back h in list_all-append p front back ∙ both _ _ k.0 k.2
+list_all-left_out p front x back h = let k = parts_of_all p front x back h in list_all-append p front back ∙ and_from _ _ k.0 k.2
 
 -- ---- one path among others
 
@@ -65,7 +62,7 @@ differs x y h = ap not (texts_ties x y ∙ ap is_eq (nat_list_cmp_total.antisymm
 differs_before : (front : List (List ℕ)) (x : List ℕ) (back : List (List ℕ)) → IsAscending (front ++ x ∷ back) → list_all (λ y. not (bytes_eq x y)) front ≡ true
 unfolding IsStrictlySortedBy
 differs_before [] x back s = refl
-differs_before (y ∷ front) x back s = both _ _ (differs x y (less_at y front x back s.0)) (differs_before front x back s.1)
+differs_before (y ∷ front) x back s = and_from _ _ (differs x y (less_at y front x back s.0)) (differs_before front x back s.1)
 
 no_collision : (a b c : Bool) → ((not a && not b) && not c) ≡ true → not (a || b || c) ≡ true
 no_collision a b c h = grind arith
@@ -153,7 +150,7 @@ none_below-rest w f [] p q h = refl
 none_below-rest w f (y ∷ paths) p q h =
     let k = and_parts (is_below w y) (list_all (is_below w) paths) q in
     let m = and_parts (not (is_below f y)) (list_all (λ z. not (is_below f z)) paths) h in
-    both _ _ (ap not (is_below-rest w f y p k.0) ∙ m.0) (none_below-rest w f paths p k.1 m.1)
+    and_from _ _ (ap not (is_below-rest w f y p k.0) ∙ m.0) (none_below-rest w f paths p k.1 m.1)
 
 apart-rest : (w : List ℕ) (all paths : List (List ℕ)) → list_all (is_below w) all ≡ true → list_all (is_below w) paths ≡ true
     → list_all (λ f. list_all (λ y. not (is_below f y)) all) paths ≡ true → list_all (λ f. list_all (λ y. not (is_below f y)) (map (rest_of w) all)) (map (rest_of w) paths) ≡ true
@@ -161,7 +158,7 @@ apart-rest w all [] q r h = refl
 apart-rest w all (f ∷ paths) q r h =
     let k = and_parts (is_below w f) (list_all (is_below w) paths) r in
     let m = and_parts (list_all (λ y. not (is_below f y)) all) (list_all (λ g. list_all (λ y. not (is_below g y)) all) paths) h in
-    both _ _ (none_below-rest w f all k.0 q m.0) (apart-rest w all paths q k.1 m.1)
+    and_from _ _ (none_below-rest w f all k.0 q m.0) (apart-rest w all paths q k.1 m.1)
 
 -- the paths of a listing without the folder are in order, and none is a folder of another
 pub IsPathList-rest : (w : List ℕ) (paths : List (List ℕ)) → IsListing w paths → IsPathList (map (rest_of w) paths)

@@ -8,7 +8,7 @@ use Rattle.std.specs.List.{list_all}
 use Rattle.std.specs.FinMap.{empty, keys, entries, insert, from_entries, from_entries_push, entries-insert, len-entries, len-empty, slice_cmp-IsAntisymmetric, nat_cmp-IsAntisymmetric}
 use Rattle.std.specs.FinMap.Entries.{find, put, by_order}
 use Rattle.std.proofs.lemmas.List.{nil_from_length, at_drop_more, take_more, map-append, take-append-drop}
-use Rattle.std.proofs.lemmas.Bool.{and_parts, leb-true}
+use Rattle.std.proofs.lemmas.Bool.{and_parts, leb-true, and_from}
 use Rattle.bulk_base.specs.Path.{joined, collides, is_below}
 use Rattle.bulk_base.specs.declared.file.FileItem.{FileItem}
 use Rattle.bulk_base.proofs.MapView.{order}
@@ -17,17 +17,14 @@ use Rattle.bulk_model.specs.Bake.{placed}
 use Rattle.bulk_model.specs.Facts.{paths_of}
 use Rattle.bulk_run.proofs.PathLists.{IsPathList, parts_of_all, collides_none_before, collides-joined_both}
 
-both : (a b : Bool) → a ≡ true → b ≡ true → (a && b) ≡ true
-both a b p q = grind arith
-
 list_all-put : (p : List ℕ → Bool) (path bytes : List ℕ) (es : List (List ℕ × List ℕ)) → p path ≡ true → list_all p (map (λ e. e.0) es) ≡ true → list_all p (map (λ e. e.0) (put order path bytes es)) ≡ true
-list_all-put p path bytes [] h k = both _ _ h refl
+list_all-put p path bytes [] h k = and_from _ _ h refl
 list_all-put p path bytes (e ∷ es) h k =
     let m = and_parts (p e.0) (list_all p (map (λ x. x.0) es)) k in
     elim (order path e.0) as (λ o. list_all p (map (λ x. x.0) (by_order o ((path, bytes) ∷ e ∷ es) ((e.0, bytes) ∷ es) (e ∷ put order path bytes es))) ≡ true) [
-      | Less ↦ both _ _ h k
+      | Less ↦ and_from _ _ h k
       | Equal ↦ k
-      | Greater ↦ both _ _ m.0 (list_all-put p path bytes es h m.1)
+      | Greater ↦ and_from _ _ m.0 (list_all-put p path bytes es h m.1)
     ]
 
 entries-empty : entries (empty {X = List ℕ} {R = order}) ≡ []
@@ -56,7 +53,7 @@ collides_none-placed : (w x : List ℕ) (files : List FileItem) → list_all (λ
 collides_none-placed w x [] h = refl
 collides_none-placed w x (f ∷ files) h =
     let m = and_parts (not (collides x f.path)) (list_all (λ y. not (collides x y)) (paths_of files)) h in
-    both _ _ (ap not (collides-joined_both w x f.path) ∙ m.0) (collides_none-placed w x files m.1)
+    and_from _ _ (ap not (collides-joined_both w x f.path) ∙ m.0) (collides_none-placed w x files m.1)
 
 paths_split : (files : List FileItem) (i : ℕ) (d : FileItem) → i < length files → paths_of files ≡ paths_of (take i files) ++ (get_or files i d).path ∷ paths_of (drop (i + 1) files)
 paths_split files i d l =

@@ -6,16 +6,13 @@ use Rattle.std.specs.List.{list_all, filter_map, cons_option}
 use Rattle.std.proofs.lemmas.List.{at_drop_more, take_more, map-append, append_assoc, append-nil, take_all}
 use Rattle.std.proofs.lemmas.List.Elements.{filter_map-append}
 use Rattle.std.proofs.lemmas.List.Folds.{list_all-append}
-use Rattle.std.proofs.lemmas.Bool.{le-leb}
+use Rattle.std.proofs.lemmas.Bool.{le-leb, and_from}
 use Rattle.bulk_base.specs.declared.file.FileItem.{FileItem}
 use Rattle.bulk_model.specs.Facts.{paths_of}
 use Rattle.outside.specs.Contents.{Contents, IsListing, files_below}
 use Rattle.bulk_model.specs.Files.{file_at, files_in}
 use Rattle.bulk_run.specs.RoomBuild.{cut_file, taken_at}
 use Rattle.bulk_run.proofs.PathLists.{IsPathList, IsPathList-rest, rest_of, left_out}
-
-both : (a b : Bool) → a ≡ true → b ≡ true → (a && b) ≡ true
-both a b p q = grind arith
 
 -- what comes of each path so far
 one_more : {X : Type 0} (o : Option X) → option_to_list o ≡ cons_option o []
@@ -55,7 +52,7 @@ form_in_loop w paths i path before now found l p e n h =
 -- and short
 one_short : (most : ℕ) (found : Option FileItem) → IfSome found (λ f. length f.path ≤ most) → list_all (λ path. nat_le (length path) most) (paths_of (option_to_list found)) ≡ true
 one_short most None e = refl
-one_short most (Some f) e = both _ _ (le-leb (length f.path) most e) refl
+one_short most (Some f) e = and_from _ _ (le-leb (length f.path) most e) refl
 
 pub short_so_far : (most : ℕ) (before now : List FileItem) (found : Option FileItem) → IfSome found (λ f. length f.path ≤ most) → now ≡ before ++ option_to_list found
     → list_all (λ path. nat_le (length path) most) (paths_of before) ≡ true → list_all (λ path. nat_le (length path) most) (paths_of now) ≡ true
@@ -63,7 +60,7 @@ short_so_far most before now found e n h =
     ap (λ fs. list_all (λ path. nat_le (length path) most) (paths_of fs)) n
     ∙ ap (list_all (λ path. nat_le (length path) most)) (map-append (λ f. f.path) before (option_to_list found))
     ∙ list_all-append (λ path. nat_le (length path) most) (paths_of before) (paths_of (option_to_list found))
-    ∙ both _ _ h (one_short most found e)
+    ∙ and_from _ _ h (one_short most found e)
 
 -- the loop's start, and its end
 pub form_at_start : (w folder : List ℕ) (files : List FileItem) (items paths : List (List ℕ)) → files ≡ [] → items ≡ paths → folder ≡ w → IsListing folder paths → IsPathList (paths_of files ++ map (rest_of w) items)

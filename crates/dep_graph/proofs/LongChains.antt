@@ -12,15 +12,7 @@ use Rattle.dep_graph.specs.Order.{IsInOrder, IsLooplessPart, is_free, is_looples
 use Rattle.dep_graph.specs.Chains.{is_chain_above, HasChain, IsLongest, Raised}
 use Rattle.dep_graph.proofs.Members.{Place, place_of, has-range, all_has}
 use Rattle.dep_graph.proofs.Reaching.{target_below}
-use Rattle.dep_graph.proofs.Waiting.{not_before, has_first, has_pushed}
-
-or_none : (b : Bool) → (b || (false || false)) ≡ b
-or_none true = refl
-or_none false = refl
-
-or_one : (b : Bool) → (b || (true || false)) ≡ true
-or_one true = refl
-or_one false = refl
+use Rattle.dep_graph.proofs.Waiting.{or_none, or_one, not_before, has_first, has_pushed}
 
 abbrev raised : Bool → ℕ → ℕ → ℕ
 raised b value old = cond b (max old value) old

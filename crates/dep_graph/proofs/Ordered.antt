@@ -44,7 +44,7 @@ all_outside : (numbers : List ℕ) → count_outside [] numbers ≡ length numbe
 all_outside [] = refl
 all_outside (x ∷ numbers) = count_outside-cons [] numbers x ∙ ap (λ t. 1 + t) (all_outside numbers) ∙ (let e : 1 + length numbers ≡ suc (length numbers) = omega arith in e)
 
-distinct_filter : (p : ℕ → Bool) (count : ℕ) → IsDistinct nat_eq (filter p (range_with_len 0 count))
+pub distinct_filter : (p : ℕ → Bool) (count : ℕ) → IsDistinct nat_eq (filter p (range_with_len 0 count))
 distinct_filter p count =
     let rises : AllPairs (λ x y. x < y) (filter p (range_with_len 0 count)) =
     AllPairs-from_increasing (filter p (range_with_len 0 count)) (IsStrictlyIncreasing-filter p (range_with_len 0 count) (increasing_range count)) in

@@ -13,11 +13,11 @@ use Rattle.dep_graph.specs.Graphs.{has, depends_at}
 use Rattle.dep_graph.specs.Waiting.{times, count_outside, IsWaiting}
 use Rattle.dep_graph.proofs.Members.{Place, place_of, has_from_place, has-append, all_from_has}
 
-or_none : (b : Bool) → (b || (false || false)) ≡ b
+pub or_none : (b : Bool) → (b || (false || false)) ≡ b
 or_none true = refl
 or_none false = refl
 
-or_one : (b : Bool) → (b || (true || false)) ≡ true
+pub or_one : (b : Bool) → (b || (true || false)) ≡ true
 or_one true = refl
 or_one false = refl
 

@@ -1,31 +1,15 @@
 // The edges of a graph, turned round.
 ghost use Rattle.std.specs.Prelude.{◌≡◌, ◌<◌, [], length, replicate, IfOk, OnOk};
 ghost use Rattle.std.specs.List.{All};
-ghost use Rattle.bulk_model.specs.Facts.{kind_number};
 ghost use Rattle.dep_graph.specs.Turned.{turned_of_kind, turned_from, dependents, Grew};
 ghost use Rattle.dep_graph.specs.Graphs.{IsGraph};
 
 use bulk_base::{NoMemory, Sequence};
-use bulk_model::{DepKind, Edge, Edges};
+use bulk_model::{Edge, Edges};
 use std::alloc::Global;
 
 /// How many kinds of dependency there are.
 const KINDS: u8 = 7;
-
-/// The place of a kind in the order of the dependency variables.
-fn kind_number(kind: DepKind) -> u8
-    ensures { result ≡ kind_number kind }
-{
-    match kind {
-        DepKind::Pkg => 0,
-        DepKind::Fetch => 1,
-        DepKind::Extract => 2,
-        DepKind::Patch => 3,
-        DepKind::Build => 4,
-        DepKind::Lib => 5,
-        DepKind::Run => 6,
-    }
-}
 
 /// So many empty lists.
 fn empty_lists(alloc: Global, count: usize) -> Result<Vec<Edges>, NoMemory>
@@ -44,7 +28,7 @@ fn turn_kind(lists: &mut Vec<Edges>, n: u32, kind: u8, edges: &[Edge]) -> Result
     ensures { OnOk result (Grew lists.old.items lists.new.items (λ d. turned_of_kind n kind d edges.now)) }
 {
     for edge in edges {
-        if kind_number(edge.kind) == kind {
+        if edge.kind.number() == kind {
             lists[edge.to as usize].push(Edge {
                 kind: edge.kind,
                 to: n,

@@ -14,29 +14,13 @@ use Rattle.dep_graph.specs.Graphs.{has, depends_at, nodes_of, IsWithin}
 use Rattle.dep_graph.specs.Order.{IsInOrder, is_away, is_free, IsLooplessPart}
 use Rattle.dep_graph.proofs.Members.{has-append, has-filter, has-range, below-range, all_has, all_from_has}
 use Rattle.dep_graph.proofs.Reaching.{increasing_range, target_below}
-use Rattle.dep_graph.proofs.Waiting.{has_pushed}
-use Rattle.dep_graph.proofs.Ordered.{away_upto, ordered_is_free}
+use Rattle.dep_graph.proofs.Waiting.{or_none, or_one, has_pushed}
+use Rattle.dep_graph.proofs.Ordered.{distinct_filter, away_upto, ordered_is_free}
 use Rattle.loop_report.proofs.Least.{has_head, has_tail, member}
-
-or_none : (b : Bool) → (b || (false || false)) ≡ b
-or_none true = refl
-or_none false = refl
-
-or_one : (b : Bool) → (b || (true || false)) ≡ true
-or_one true = refl
-or_one false = refl
 
 is_not : (b : Bool) → not b ≡ true → b ≡ false
 is_not true e = absurd (both_ways false refl e)
 is_not false e = refl
-
-distinct_filter : (p : ℕ → Bool) (count : ℕ) → IsDistinct nat_eq (filter p (range_with_len 0 count))
-distinct_filter p count =
-    let rises : AllPairs (λ x y. x < y) (filter p (range_with_len 0 count)) =
-    AllPairs-from_increasing (filter p (range_with_len 0 count)) (IsStrictlyIncreasing-filter p (range_with_len 0 count) (increasing_range count)) in
-    IsDistinct-from_apart nat_eq (filter p (range_with_len 0 count))
-    (λ i j d b l. ne_eqb (get_or (filter p (range_with_len 0 count)) i d) (get_or (filter p (range_with_len 0 count)) j d)
-    (λ e. let less : get_or (filter p (range_with_len 0 count)) i d < get_or (filter p (range_with_len 0 count)) j d = rises i j d b l in omega arith))
 
 none_twice : IsDistinct nat_eq []
 unfolding IsDistinct

@@ -1,7 +1,5 @@
 pub mod Readable
-pub mod Places
 pub mod Bars
-pub mod Sizes
 pub mod Read
 pub mod Last
 pub mod Walked

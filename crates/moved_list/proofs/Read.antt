@@ -9,7 +9,7 @@ use Rattle.moved_list.specs.declared.fault.MovedError.{MovedError}
 use Rattle.moved_list.specs.declared.fault.MovedError.TheVariants.{BadLine}
 use Rattle.moved_list.specs.Lines.{is_moved_line, entry}
 use Rattle.moved_list.specs.Moved.{says_something, is_bad, entries, moved_in}
-use Rattle.moved_list.proofs.Places.{none, position_here, position_none}
+use Rattle.bulk_base.proofs.Places.{none, position_here, position_none}
 
 -- the lines so far are in form, and what they say is found
 pub record ReadSoFar (lines : List (List ℕ)) (at : ℕ) (found : List MovedLine) : Type 0 where

@@ -1,54 +1,15 @@
 // The fields of a line.
 ghost use Rattle.std.specs.Prelude.{◌≡◌, ◌≤◌, length, IfOk};
 ghost use Rattle.std.specs.List.{list_all, position_or_len, before_first, after_first};
-ghost use Rattle.std.specs.Str.{is_utf8};
-ghost use Rattle.bulk_base.specs.Text as texts;
 ghost use Rattle.bulk_base.specs.Text.{IsText};
 ghost use Rattle.bulk_base.specs.Words as words;
 ghost use Rattle.moved_list.specs.Lines as lines_of;
 ghost use Rattle.moved_list.specs.Lines.{is_bar, name_in};
 
 use crate::line::MovedLine;
-use bulk_base::{NoMemory, Text, TextError};
+use bulk_base::{NoMemory, Text, is_blank, is_text, place_or_end};
 use port_name::is_node;
-use std::alloc::{AllocError, Global};
-use std::str;
-
-/// The text with the bytes of a text.
-fn text_of(alloc: Global, bytes: &[u8]) -> Result<Text, NoMemory>
-    requires { IsText bytes.now }
-    ensures { IfOk result (λ text. text ≡ bytes.now) }
-{
-    match Text::from_bytes(alloc, bytes) {
-        Ok(text) => Ok(text),
-        Err(TextError::NoMemory) => Err(AllocError),
-        Err(TextError::NotText) => unreachable!(),
-    }
-}
-
-fn has_text_bytes(bytes: &[u8]) -> bool
-    ensures { result ≡ texts.has_text_bytes bytes.now }
-{
-    bytes.iter().all(|b| *b != 0 && *b != b'\n')
-}
-
-fn is_utf8(bytes: &[u8]) -> bool
-    ensures { result ≡ is_utf8 bytes.now }
-{
-    str::from_utf8(bytes).is_ok()
-}
-
-fn is_text(bytes: &[u8]) -> bool
-    ensures { result ≡ texts.is_text bytes.now }
-{
-    is_utf8(bytes) && has_text_bytes(bytes)
-}
-
-fn is_blank(byte: u8) -> bool
-    ensures { result ≡ words.is_blank byte }
-{
-    byte == b' ' || byte == b'\t'
-}
+use std::alloc::Global;
 
 fn has_only_blanks(line: &[u8]) -> bool
     ensures { result ≡ list_all words.is_blank line.now }
@@ -63,19 +24,12 @@ pub(crate) fn is_ignored(line: &[u8]) -> bool
     has_only_blanks(line) || line[0] == b'#'
 }
 
-fn bar_place(text: &[u8]) -> usize
-    ensures place { result ≡ position_or_len is_bar text.now }
-    ensures within { result ≤ length text.now }
-{
-    text.iter().position(|b| *b == b'|').unwrap_or(text.len())
-}
-
 /// What stands before the first bar, or all.
 fn before_bar(text: &[u8]) -> &[u8]
     ensures value { result.now ≡ before_first is_bar text.now }
     ensures text { IsText text.now → IsText result.now }
 {
-    &text[..bar_place(text)]
+    &text[..place_or_end(text, b'|')]
 }
 
 /// What stands behind the first bar, or nothing.
@@ -83,7 +37,7 @@ fn behind_bar(text: &[u8]) -> &[u8]
     ensures value { result.now ≡ after_first is_bar text.now }
     ensures text { IsText text.now → IsText result.now }
 {
-    let place = bar_place(text);
+    let place = place_or_end(text, b'|');
     if place < text.len() {
         &text[place + 1..]
     } else {
@@ -118,7 +72,7 @@ fn name_in(alloc: Global, field: &[u8]) -> Result<Option<Text>, NoMemory>
     if field.is_empty() {
         return Ok(None);
     }
-    Ok(Some(text_of(alloc, field)?))
+    Ok(Some(Text::of(alloc, field)?))
 }
 
 /// What a line says. One pass over it, and a copy.
@@ -129,9 +83,9 @@ pub(crate) fn entry(alloc: Global, line: &[u8]) -> Result<MovedLine, NoMemory>
     let behind = behind_bar(line);
     let last = behind_bar(behind);
     Ok(MovedLine {
-        from: text_of(alloc, before_bar(line))?,
+        from: Text::of(alloc, before_bar(line))?,
         to: name_in(alloc, before_bar(behind))?,
-        date: text_of(alloc, before_bar(last))?,
-        reason: text_of(alloc, behind_bar(last))?,
+        date: Text::of(alloc, before_bar(last))?,
+        reason: Text::of(alloc, behind_bar(last))?,
     })
 }

@@ -1,15 +1,14 @@
 // The list of moved ports, and its reader.
-ghost use Rattle.std.specs.Prelude.{◌≡◌, ◌≢◌, ◌<◌, ◌^◌, ◌++◌, ◌∷◌, ℕ, List, All, [], length, slice_index_or, true, IfOk, IfErr, OnOk};
+ghost use Rattle.std.specs.Prelude.{◌≡◌, ◌≢◌, ◌<◌, ◌^◌, ◌++◌, ◌∷◌, ℕ, List, [], length, true, IfOk, IfErr, OnOk};
 ghost use Rattle.std.specs.Option.{option_copied};
 ghost use Rattle.std.specs.FinMap as map;
-ghost use Rattle.bulk_base.specs.Lines.{cut_at, IsSpanWithin};
 ghost use Rattle.moved_list.specs.Lines as lines_of;
 ghost use Rattle.moved_list.specs.Moved.{entries, moved_of, last_line, IsPlaceOf};
 
 use crate::entry::{entry, is_ignored, is_moved_line};
 use crate::fault::MovedError;
 use crate::line::{MovedLine, MovedLines};
-use bulk_base::{NoMemory, Sequence, Spans, Text, TextMap, lines};
+use bulk_base::{NoMemory, Sequence, Text, TextMap, lines};
 use std::alloc::Global;
 use std::marker::Model;
 
@@ -65,17 +64,6 @@ fn last_places(alloc: Global, lines: &MovedLines) -> Result<TextMap<usize>, NoMe
     Ok(places)
 }
 
-/// The bytes at one of the spans.
-fn line_at<'a>(bytes: &'a [u8], spans: &Spans, at: usize) -> &'a [u8]
-    requires place { at < length spans.now }
-    requires within { All (IsSpanWithin bytes.now) spans.now }
-    ensures { result.now ≡ slice_index_or (cut_at bytes.now spans.now) at result.now }
-{
-    let spans = spans.as_slice();
-    let span = spans[at];
-    &bytes[span.from as usize..span.to as usize]
-}
-
 /// Puts what a line in form says at the end.
 fn take_line(alloc: Global, found: &mut MovedLines, line: &[u8]) -> Result<(), NoMemory>
     requires { lines_of.is_moved_line line.now ≡ true }
@@ -95,7 +83,7 @@ fn read_lines(alloc: Global, bytes: &[u8]) -> Result<MovedLines, MovedError>
     let spans = lines(alloc, bytes)?;
     let mut found = Sequence::new(alloc);
     for at in 0..spans.len() {
-        let line = line_at(bytes, &spans, at);
+        let line = spans.as_slice()[at].of(bytes);
         if !is_moved_line(line) {
             return Err(MovedError::BadLine {
                 line: at as u32 + 1,

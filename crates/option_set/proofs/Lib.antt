@@ -4,4 +4,3 @@ pub mod Spreading
 pub mod Turning
 pub mod Choosing
 pub mod Rounds
-pub mod Texts

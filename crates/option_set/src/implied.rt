@@ -7,7 +7,6 @@ ghost use Rattle.option_set.specs.Implied as implied;
 
 use crate::asking::asked;
 use crate::layers::Layers;
-use crate::listing::add_copies;
 use crate::read::{words_at, words_behind};
 use bulk_base::{NoMemory, Sequence, Switch, Text, TextMap, Texts};
 use port_vars::Vars;

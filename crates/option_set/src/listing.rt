@@ -4,18 +4,8 @@ ghost use Rattle.std.specs.List.{flat_map};
 ghost use Rattle.option_set.specs.Defined as defined;
 
 use crate::defining::{Defining, Group};
-use bulk_base::{NoMemory, Sequence, Text, Texts};
+use bulk_base::{NoMemory, Sequence, Texts, add_copies};
 use std::alloc::Global;
-
-/// Puts copies of texts at the end.
-pub(crate) fn add_copies(alloc: Global, texts: &[Text], found: &mut Texts) -> Result<(), NoMemory>
-    ensures { OnOk result (found.new ≡ found.old ++ texts.now) }
-{
-    for text in texts {
-        found.push(text.copy(alloc)?)?;
-    }
-    Ok(())
-}
 
 /// Puts the names of groups at the end.
 fn add_names(alloc: Global, groups: &[Group], found: &mut Texts) -> Result<(), NoMemory>

@@ -9,7 +9,7 @@ ghost use Rattle.option_set.specs.Refused as refused;
 use crate::defining::Defining;
 use crate::fault::OptionError;
 use crate::listed::Listed;
-use crate::listing::{add_copies, defining_words};
+use crate::listing::defining_words;
 use crate::name::is_option_name;
 use crate::read::{words_at, words_behind};
 use bulk_base::{NoMemory, Text, Texts};

@@ -6,7 +6,7 @@ use Rattle.std.proofs.lemmas.List.Elements.{filter-append}
 use Rattle.std.proofs.lemmas.List.Folds.{list_all-append}
 use Rattle.bulk_base.specs.Text.{is_text}
 use Rattle.bulk_base.specs.Words.{is_filled}
-use Rattle.moved_list.proofs.Places.{none, position_here, position_none}
+use Rattle.bulk_base.proofs.Places.{none, position_here, position_none}
 use Rattle.port_desc.proofs.Turns.{taken_more}
 use Rattle.origin_flavor.specs.declared.fault.WantedError.{WantedError}
 use Rattle.origin_flavor.specs.declared.fault.WantedError.TheVariants.{BadList}

@@ -5,7 +5,7 @@ use Rattle.std.specs.List.{position_or_len, before_first}
 use Rattle.std.specs.Str.{is_utf8}
 use Rattle.std.proofs.lemmas.List.{take_all}
 use Rattle.std.proofs.lemmas.List.Sums.{passes_at_first}
-use Rattle.std.proofs.lemmas.Bool.{cases_lt, eqb-true}
+use Rattle.std.proofs.lemmas.Bool.{cases_lt, eqb-true, and_parts}
 use Rattle.std.proofs.lemmas.Str.{is_utf8-from_IsUtf8, IsUtf8-from_is_utf8}
 use Rattle.bulk_base.specs.Text.{IsText, is_text, has_text_bytes}
 use Rattle.port_name.specs.Forms.{is_at}
@@ -33,12 +33,9 @@ at_ascii b h = omega (arith, eqb-true b 64 h)
 pub IsText-before_at : (text : List ℕ) (place : ℕ) → place ≡ position_or_len is_at text → IsText text → IsText (take place text)
 IsText-before_at = IsText-front is_at at_ascii
 
-both : (a b : Bool) → (a && b) ≡ true → (a ≡ true) × (b ≡ true)
-both a b t = grind arith
-
 -- what the test of texts means
 pub IsText-from_test : (bytes : List ℕ) → is_text bytes ≡ true → IsText bytes
-IsText-from_test bytes h = let parts = both (is_utf8 bytes) (has_text_bytes bytes) h in (IsUtf8-from_is_utf8 bytes parts.0, parts.1)
+IsText-from_test bytes h = let parts = and_parts (is_utf8 bytes) (has_text_bytes bytes) h in (IsUtf8-from_is_utf8 bytes parts.0, parts.1)
 
 pub is_text-from_IsText : (bytes : List ℕ) → IsText bytes → is_text bytes ≡ true
 is_text-from_IsText bytes h = ap (λ b. b && has_text_bytes bytes) (is_utf8-from_IsUtf8 bytes h.0) ∙ h.1

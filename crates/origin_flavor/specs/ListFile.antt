@@ -8,7 +8,7 @@ use Rattle.std.specs.List.{before_first}
 use Rattle.std.specs.Str.Lines.{lines}
 use Rattle.bulk_base.specs.Text.{is_text}
 use Rattle.bulk_base.specs.Words.{is_filled}
-use Rattle.port_vars.specs.Trim.{trim}
+use Rattle.bulk_base.specs.Trim.{trim}
 use Rattle.port_vars.specs.Assignment.{mapped}
 use Rattle.origin_flavor.specs.declared.fault.WantedError.{WantedError}
 use Rattle.origin_flavor.specs.declared.fault.WantedError.TheVariants.{BadList}

@@ -4,22 +4,15 @@ ghost use Rattle.std.specs.List.{position_or_len};
 ghost use Rattle.port_name.specs.Forms.{is_at};
 ghost use Rattle.origin_flavor.specs.Words as parts;
 
-use bulk_base::{NoMemory, Text};
+use bulk_base::{NoMemory, Text, place_or_end};
 use std::alloc::Global;
-
-fn at_place(word: &[u8]) -> usize
-    ensures place { result ≡ position_or_len is_at word.now }
-    ensures within { result ≤ length word.now }
-{
-    word.iter().position(|b| *b == b'@').unwrap_or(word.len())
-}
 
 /// The word's own origin: what stands before `@`.
 pub(crate) fn origin_in(alloc: Global, word: &Text) -> Result<Text, NoMemory>
     ensures { IfOk result (λ origin. origin ≡ parts.origin_in word.now) }
 {
     let bytes = word.bytes();
-    Text::of(alloc, &bytes[..at_place(bytes)])
+    Text::of(alloc, &bytes[..place_or_end(bytes, b'@')])
 }
 
 /// Whether the word asks for all flavors: `all` stands behind `@`.
@@ -27,7 +20,7 @@ pub(crate) fn asks_all(word: &Text) -> bool
     ensures { result ≡ parts.asks_all word.now }
 {
     let bytes = word.bytes();
-    let at = at_place(bytes);
+    let at = place_or_end(bytes, b'@');
     at < bytes.len() && &bytes[at + 1..] == b"all".as_slice()
 }
 

@@ -7,15 +7,13 @@ use Rattle.std.specs.List.{list_all, list_any, find}
 use Rattle.std.specs.FinMap.{empty, keys, entries, insert, entries-insert, len-entries, len-empty, put}
 use Rattle.std.specs.FinMap.Entries.{by_order}
 use Rattle.std.proofs.lemmas.List.Kept.{IsStrictlySortedBy-filter}
+use Rattle.std.proofs.lemmas.Bool.{and_from}
 use Rattle.bulk_base.specs.Path.{is_below, joined, collides}
 use Rattle.bulk_base.proofs.MapView.{order, keys_ascend}
 use Rattle.bulk_base.proofs.Paths.{below_is_joined}
 use Rattle.outside.specs.Contents.{Contents, IsListing, IsFree, has_no_folder, files_below}
 use Rattle.outside.specs.Programs.{can_hold}
 use Rattle.outside.specs.Given.{is_folder_of, first_folder}
-
-both : (a b : Bool) → a ≡ true → b ≡ true → (a && b) ≡ true
-both a b p q = grind arith
 
 left : (a b : Bool) → (a && b) ≡ true → a ≡ true
 left true b p = refl
@@ -30,20 +28,20 @@ pub list_all-filter : {X : Type 0} (p q : X → Bool) (xs : List X) → list_all
 list_all-filter p q [] h = refl
 list_all-filter p q (x ∷ xs) h =
     let rest : list_all p (filter q xs) ≡ true = list_all-filter p q xs (right (p x) (list_all p xs) h) in
-    elim (q x) as (λ b. list_all p (cond b (x ∷ filter q xs) (filter q xs)) ≡ true) [ true ↦ both _ _ (left (p x) (list_all p xs) h) rest | false ↦ rest ]
+    elim (q x) as (λ b. list_all p (cond b (x ∷ filter q xs) (filter q xs)) ≡ true) [ true ↦ and_from _ _ (left (p x) (list_all p xs) h) rest | false ↦ rest ]
 
 -- a filter keeps what passes
 pub list_all_kept : {X : Type 0} (p : X → Bool) (xs : List X) → list_all p (filter p xs) ≡ true
 list_all_kept p [] = refl
 list_all_kept p (x ∷ xs) =
     elim (p x) as (λ b. p x ≡ b → list_all p (cond b (x ∷ filter p xs) (filter p xs)) ≡ true) [
-      | true ↦ λ e. both _ _ e (list_all_kept p xs)
+      | true ↦ λ e. and_from _ _ e (list_all_kept p xs)
       | false ↦ λ e. list_all_kept p xs
     ] refl
 
 list_all_weaker : {X : Type 0} (p q : X → Bool) (xs : List X) → ((x : X) → p x ≡ true → q x ≡ true) → list_all p xs ≡ true → list_all q xs ≡ true
 list_all_weaker p q [] w h = refl
-list_all_weaker p q (x ∷ xs) w h = both _ _ (w x (left (p x) (list_all p xs) h)) (list_all_weaker p q xs w (right (p x) (list_all p xs) h))
+list_all_weaker p q (x ∷ xs) w h = and_from _ _ (w x (left (p x) (list_all p xs) h)) (list_all_weaker p q xs w (right (p x) (list_all p xs) h))
 
 pub has_no_folder-filter : (q : List ℕ → Bool) (paths : List (List ℕ)) → has_no_folder paths ≡ true → has_no_folder (filter q paths) ≡ true
 has_no_folder-filter q paths h =
@@ -61,14 +59,14 @@ files_below_are_listed folder content h = record {
 
 none_below : (folder : List ℕ) (paths : List (List ℕ)) → list_any (is_below folder) paths ≡ false → list_all (λ path. not (is_below folder path)) paths ≡ true
 none_below folder [] h = refl
-none_below folder (x ∷ xs) h = both _ _ (grind arith) (none_below folder xs (grind arith))
+none_below folder (x ∷ xs) h = and_from _ _ (grind arith) (none_below folder xs (grind arith))
 
 none_found : {X : Type 0} (p q : X → Bool) (xs : List X) → ((x : X) → p x ≡ false → q x ≡ true) → find p xs ≡ None → list_all q xs ≡ true
 none_found p q [] w h = refl
 none_found p q (x ∷ xs) w h =
     elim (p x) as (λ b. p x ≡ b → cond b (Some x) (find p xs) ≡ None → (q x && list_all q xs) ≡ true) [
       | true ↦ λ e k. cc
-      | false ↦ λ e k. both _ _ (w x e) (none_found p q xs w k)
+      | false ↦ λ e k. and_from _ _ (w x e) (none_found p q xs w k)
     ] refl h
 
 -- where there is no first folder, there is none
@@ -77,12 +75,12 @@ has_no_folder-from_first paths h = none_found (is_folder_of paths) (λ folder. l
 
 -- a file that is put at a path that none is a folder of, and that is none's folder, keeps this so
 list_all-put : (p : List ℕ → Bool) (path : List ℕ) (bytes : List ℕ) (es : List (List ℕ × List ℕ)) → p path ≡ true → list_all p (map (λ e. e.0) es) ≡ true → list_all p (map (λ e. e.0) (put order path bytes es)) ≡ true
-list_all-put p path bytes [] h k = both _ _ h refl
+list_all-put p path bytes [] h k = and_from _ _ h refl
 list_all-put p path bytes (e ∷ es) h k =
     elim (order path e.0) as (λ o. list_all p (map (λ x. x.0) (by_order o ((path, bytes) ∷ e ∷ es) ((e.0, bytes) ∷ es) (e ∷ put order path bytes es))) ≡ true) [
-      | Less ↦ both _ _ h k
+      | Less ↦ and_from _ _ h k
       | Equal ↦ k
-      | Greater ↦ both _ _ (left (p e.0) (list_all p (map (λ x. x.0) es)) k) (list_all-put p path bytes es h (right (p e.0) (list_all p (map (λ x. x.0) es)) k))
+      | Greater ↦ and_from _ _ (left (p e.0) (list_all p (map (λ x. x.0) es)) k) (list_all-put p path bytes es h (right (p e.0) (list_all p (map (λ x. x.0) es)) k))
     ]
 
 list_all-insert : (p : List ℕ → Bool) (content : Contents) (path bytes : List ℕ) → p path ≡ true → list_all p (keys content) ≡ true → list_all p (keys (insert content path bytes)) ≡ true
@@ -92,11 +90,11 @@ list_all-insert p content path bytes h k =
 list_all_both : {X : Type 0} (p q : X → Bool) (xs : List X) → list_all p xs ≡ true → list_all q xs ≡ true → list_all (λ x. p x && q x) xs ≡ true
 list_all_both p q [] h k = refl
 list_all_both p q (x ∷ xs) h k =
-    both _ _ (both _ _ (left (p x) (list_all p xs) h) (left (q x) (list_all q xs) k)) (list_all_both p q xs (right (p x) (list_all p xs) h) (right (q x) (list_all q xs) k))
+    and_from _ _ (and_from _ _ (left (p x) (list_all p xs) h) (left (q x) (list_all q xs) k)) (list_all_both p q xs (right (p x) (list_all p xs) h) (right (q x) (list_all q xs) k))
 
 not_any : {X : Type 0} (p q : X → Bool) (xs : List X) → ((x : X) → p x ≡ false → q x ≡ true) → not (list_any p xs) ≡ true → list_all q xs ≡ true
 not_any p q [] w h = refl
-not_any p q (x ∷ xs) w h = both _ _ (w x (grind arith)) (not_any p q xs w (grind arith))
+not_any p q (x ∷ xs) w h = and_from _ _ (w x (grind arith)) (not_any p q xs w (grind arith))
 
 not_true : (b : Bool) → (b ≡ true → ⊥) → not b ≡ true
 not_true true h = absurd (h refl)

@@ -4,7 +4,7 @@ use Rattle.std.specs.Prelude.{◌&&◌}
 use Rattle.std.specs.List.{list_all}
 use Rattle.std.proofs.lemmas.List.Sums.{AllPass-from_list_all}
 use Rattle.std.specs.Int.{to_be_bytes, w32}
-use Rattle.std.proofs.lemmas.Bool.{cases_lt}
+use Rattle.std.proofs.lemmas.Bool.{cases_lt, and_from}
 use Rattle.std.proofs.lemmas.List.{get_or_append_left, get_or-append_right}
 use Rattle.sha2.specs.Sha256.{sha256, digest_bytes}
 use Rattle.hex.specs.Hex.{encode_with, encode_lower, lower_digits, IsBytes}
@@ -15,15 +15,12 @@ use Rattle.pkg_record.proofs.Names.{is_visible, hex_byte, list_all-weaken, is_te
 digit_at : (k : ℕ) → k < 16 → is_hex_byte (get_or lower_digits k 0) ≡ true
 digit_at k l = AllPass-from_list_all is_hex_byte lower_digits refl k 0 l
 
-both : (a b : Bool) → a ≡ true → b ≡ true → (a && b) ≡ true
-both a b p q = grind arith
-
 pub hex_bytes : (xs : List ℕ) → IsBytes xs → list_all is_hex_byte (encode_lower xs) ≡ true
 unfolding encode_with
 hex_bytes [] h = refl
 hex_bytes (b ∷ rest) h =
     let small : b < 256 = h 0 in
-    both _ _ (digit_at (b / 16) (omega (arith, small))) (both _ _ (digit_at (b % 16) (omega arith)) (hex_bytes rest (λ i. h (suc i))))
+    and_from _ _ (digit_at (b / 16) (omega (arith, small))) (and_from _ _ (digit_at (b % 16) (omega arith)) (hex_bytes rest (λ i. h (suc i))))
 
 pub is_text-hex : (xs : List ℕ) → IsBytes xs → is_text (encode_lower xs) ≡ true
 is_text-hex xs h = is_text-visible (encode_lower xs) (list_all-weaken is_hex_byte is_visible hex_byte (encode_lower xs) (hex_bytes xs h))

@@ -7,7 +7,7 @@ use Rattle.std.specs.Ordering.{is_lt, nat_cmp, ordering_then, ordering_reverse}
 use Rattle.std.specs.Cmp.{nat_cmp_total, tied_itself}
 use Rattle.std.specs.Cmp.Lexicographic.{slice_cmp, nat_list_cmp_total}
 use Rattle.std.specs.List.{list_all, AllByRecursion}
-use Rattle.std.proofs.lemmas.Bool.{cases_lt, cases_Bool, and_parts}
+use Rattle.std.proofs.lemmas.Bool.{cases_lt, cases_Bool, and_parts, and_from}
 use Rattle.std.proofs.lemmas.List.{length-append, length-map, get_or_append_left, map-append}
 use Rattle.std.proofs.lemmas.List.Folds.{list_all-append}
 use Rattle.std.proofs.lemmas.List.Sums.{list_all-from_AllPass}
@@ -114,22 +114,19 @@ not_below_itself a = elim (cases_Bool (is_below a a)) [
   | inr e ↦ ap not e
 ]
 
-both_true : (a b : Bool) → a ≡ true → b ≡ true → (a && b) ≡ true
-both_true a b p q = grind arith
-
 each_apart : (paths folders : List (List ℕ)) (path : List ℕ) → list_all (λ f. list_all (λ q. not (is_below f q)) paths) folders ≡ true → list_all (λ f. not (is_below f path)) folders ≡ true
     → list_all (λ f. list_all (λ q. not (is_below f q)) (paths ++ path ∷ [])) folders ≡ true
 each_apart paths [] path h k = refl
 each_apart paths (f ∷ folders) path h k =
     let a = and_parts (list_all (λ q. not (is_below f q)) paths) _ h in
     let b = and_parts (not (is_below f path)) _ k in
-    let here : list_all (λ q. not (is_below f q)) (paths ++ path ∷ []) ≡ true = list_all-append (λ q. not (is_below f q)) paths (path ∷ []) ∙ both_true _ _ a.0 (both_true _ true b.0 refl) in
-    both_true _ _ here (each_apart paths folders path a.1 b.1)
+    let here : list_all (λ q. not (is_below f q)) (paths ++ path ∷ []) ≡ true = list_all-append (λ q. not (is_below f q)) paths (path ∷ []) ∙ and_from _ _ a.0 (and_from _ true b.0 refl) in
+    and_from _ _ here (each_apart paths folders path a.1 b.1)
 
 last_apart : (paths : List (List ℕ)) (path : List ℕ) → IsAscending (paths ++ path ∷ []) → list_all (λ q. not (is_below path q)) (paths ++ path ∷ []) ≡ true
 last_apart paths path s =
     list_all-append (λ q. not (is_below path q)) paths (path ∷ [])
-    ∙ both_true _ _ (list_all-from_AllPass (λ q. not (is_below path q)) paths (λ k d l. not_below_less path (get_or paths k d) (below k d l))) (both_true _ true (not_below_itself path) refl)
+    ∙ and_from _ _ (list_all-from_AllPass (λ q. not (is_below path q)) paths (λ k d l. not_below_less path (get_or paths k d) (below k d l))) (and_from _ true (not_below_itself path) refl)
   where
     below : (k : ℕ) (d : List ℕ) → k < length paths → order (get_or paths k d) path ≡ Less
     below k d l =
@@ -139,7 +136,7 @@ last_apart paths path s =
 folders_grow : (paths : List (List ℕ)) (path : List ℕ) → has_no_folder paths ≡ true → list_all (λ folder. not (is_below folder path)) paths ≡ true → IsAscending (paths ++ path ∷ []) → has_no_folder (paths ++ path ∷ []) ≡ true
 folders_grow paths path apart free s =
     list_all-append (λ f. list_all (λ q. not (is_below f q)) (paths ++ path ∷ [])) paths (path ∷ [])
-    ∙ both_true _ _ (each_apart paths paths path apart free) (both_true _ true (last_apart paths path s) refl)
+    ∙ and_from _ _ (each_apart paths paths path apart free) (and_from _ true (last_apart paths path s) refl)
 
 pub files_grow : (most : ℕ) (before : List FileItem) (file : FileItem) → path_follows (last_of before) file.path ≡ true → list_all (λ folder. not (is_below folder file.path)) (paths_of before) ≡ true
     → nat_le (length file.path) most ≡ true → IsFileList most before → IsFileList most (before ++ file ∷ [])

@@ -3,14 +3,14 @@ use Rattle.std.proofs.Common.{◌≡◌, ℕ, ◌+◌, ◌<◌, ◌≤◌, Bool,
 use Rattle.std.specs.Prelude.{◌⊎◌, ◌&&◌, ◌||◌, ◌==◌, nat_lt, nat_le, Option, Some, None, IsTrue, IfSome}
 use Rattle.std.specs.Option.{option_map_or}
 use Rattle.std.specs.List.{list_all, position_or_len}
-use Rattle.std.proofs.lemmas.Bool.{eqb-true}
+use Rattle.std.proofs.lemmas.Bool.{eqb-true, and_parts}
 use Rattle.std.proofs.lemmas.Bool.Decides.{nat_tests}
 use Rattle.std.proofs.lemmas.List.{length-drop, take-append-drop, drop_more}
 use Rattle.std.proofs.lemmas.List.Folds.{list_all-append}
 use Rattle.std.proofs.lemmas.List.Sums.{split_at_first, passes_at_first}
 use Rattle.bulk_base.specs.Names.{is_between, is_digit, is_lower, is_alphanumeric, is_made_of, is_port_byte, is_port_name, is_flavor, is_version, is_shown_number, is_option_name, IsOrigin, IsNode, IsPackageName}
 use Rattle.bulk_base.specs.Text.{is_text, is_text_byte}
-use Rattle.bulk_base.proofs.Paths.{is_text-plain}
+use Rattle.bulk_base.proofs.TextTests.{is_text-plain}
 use Rattle.pkg_record.specs.Forms.{is_mark, front, back, is_origin, is_node, is_revised, is_full_version, is_parted_at, some_below, is_package_name, is_hex_byte, is_digest}
 
 -- a byte that is neither blank nor the end of a line
@@ -20,9 +20,6 @@ is_visible b = is_between 33 126 b
 abbrev pub is_plain : List ℕ → Bool
 is_plain text = list_all is_visible text
 
-pub both : (a b : Bool) → (a && b) ≡ true → (a ≡ true) × (b ≡ true)
-both a b t = grind arith
-
 pub either : (a b : Bool) → (a || b) ≡ true → (a ≡ true) ⊎ (b ≡ true)
 either true b t = inl refl
 either false b t = inr t
@@ -30,7 +27,7 @@ either false b t = inr t
 pub list_all-weaken : (p q : ℕ → Bool) → ((b : ℕ) → p b ≡ true → q b ≡ true) → (xs : List ℕ) → list_all p xs ≡ true → list_all q xs ≡ true
 list_all-weaken p q h [] t = refl
 list_all-weaken p q h (x ∷ xs) t =
-    let parts = both (p x) (list_all p xs) t in
+    let parts = and_parts (p x) (list_all p xs) t in
     let here = h x parts.0 in
     let rest = list_all-weaken p q h xs parts.1 in
     grind arith
@@ -109,7 +106,7 @@ plain_parted mark text m some p q = ap is_plain (parted mark text some) ∙ plai
 
 pub origin_form : (text : List ℕ) → is_origin text ≡ true → IsOrigin text
 origin_form text h =
-    let parts = both (is_port_name (front 47 text)) (is_port_name (back 47 text)) h in
+    let parts = and_parts (is_port_name (front 47 text)) (is_port_name (back 47 text)) h in
     record {
       category = front 47 text;
       port = back 47 text;
@@ -120,7 +117,7 @@ origin_form text h =
 
 pub origin_plain : (text : List ℕ) → is_origin text ≡ true → is_plain text ≡ true
 origin_plain text h =
-    let parts = both (is_port_name (front 47 text)) (is_port_name (back 47 text)) h in
+    let parts = and_parts (is_port_name (front 47 text)) (is_port_name (back 47 text)) h in
     let b = port_name (back 47 text) parts.1 in
     plain_parted 47 text refl b.0 (port_name (front 47 text) parts.0).1 b.1
 
@@ -128,7 +125,7 @@ pub node_form : (text : List ℕ) → is_node text ≡ true → IsNode text
 node_form text h = elim (either (is_origin text) (is_origin (front 64 text) && is_flavor (back 64 text)) h) [
   | inl o ↦ record { origin = text; flavor = None; origin_form = origin_form text o; flavor_form = tt; spelled = refl }
   | inr f ↦
-      let parts = both (is_origin (front 64 text)) (is_flavor (back 64 text)) f in
+      let parts = and_parts (is_origin (front 64 text)) (is_flavor (back 64 text)) f in
       record {
         origin = front 64 text;
         flavor = Some (back 64 text);
@@ -142,7 +139,7 @@ pub node_plain : (text : List ℕ) → is_node text ≡ true → is_plain text �
 node_plain text h = elim (either (is_origin text) (is_origin (front 64 text) && is_flavor (back 64 text)) h) [
   | inl o ↦ origin_plain text o
   | inr f ↦
-      let parts = both (is_origin (front 64 text)) (is_flavor (back 64 text)) f in
+      let parts = and_parts (is_origin (front 64 text)) (is_flavor (back 64 text)) f in
       let b = flavor_name (back 64 text) parts.1 in
       plain_parted 64 text refl b.0 (origin_plain (front 64 text) parts.0) b.1
 ]
@@ -163,7 +160,7 @@ pub revised_parts : (text : List ℕ) → is_revised text ≡ true → IsRevised
 revised_parts text h = elim (either (is_version text) (is_version (front 95 text) && is_shown_number (back 95 text)) h) [
   | inl v ↦ record { version = text; revision = None; version_form = v; revision_form = tt; plain = (version_text text v).1; spelled = sym (append-nil text) }
   | inr f ↦
-      let parts = both (is_version (front 95 text)) (is_shown_number (back 95 text)) f in
+      let parts = and_parts (is_version (front 95 text)) (is_shown_number (back 95 text)) f in
       let b = shown_number (back 95 text) parts.1 in
       record {
         version = front 95 text;
@@ -189,7 +186,7 @@ full_version_parts text h = elim (either (is_revised text) (is_revised (front 44
       let form = revised_parts text r in
       record { revised = text; epoch = None; revised_form = form; epoch_form = tt; plain = form.plain; spelled = sym (append-nil text) }
   | inr f ↦
-      let parts = both (is_revised (front 44 text)) (is_shown_number (back 44 text)) f in
+      let parts = and_parts (is_revised (front 44 text)) (is_shown_number (back 44 text)) f in
       let form = revised_parts (front 44 text) parts.0 in
       let b = shown_number (back 44 text) parts.1 in
       record {
@@ -217,8 +214,8 @@ record IsParted (text : List ℕ) (place : ℕ) : Type 0 where
 
 parted_at : (text : List ℕ) (place : ℕ) → place < length text → is_parted_at text place ≡ true → IsParted text place
 parted_at text place l h =
-    let last = both ((get_or text place 0 == 45) && is_made_of is_port_byte 1 192 (take place text)) (is_full_version (drop (place + 1) text)) h in
-    let first = both (get_or text place 0 == 45) (is_made_of is_port_byte 1 192 (take place text)) last.0 in
+    let last = and_parts ((get_or text place 0 == 45) && is_made_of is_port_byte 1 192 (take place text)) (is_full_version (drop (place + 1) text)) h in
+    let first = and_parts (get_or text place 0 == 45) (is_made_of is_port_byte 1 192 (take place text)) last.0 in
     record {
       base_form = first.1;
       rest_form = last.1;
@@ -227,7 +224,7 @@ parted_at text place l h =
 
 name_parts : (text : List ℕ) → is_package_name text ≡ true → (place : ℕ) × (length text ≤ 200) × IsParted text place
 name_parts text h =
-    let parts = both (nat_le (length text) 200) (some_below (is_parted_at text) (length text)) h in
+    let parts = and_parts (nat_le (length text) 200) (some_below (is_parted_at text) (length text)) h in
     let k = some_below-place (is_parted_at text) (length text) parts.1 in
     (k.0, grind (arith, nat_tests), parted_at text k.0 k.1 k.2)
 

@@ -7,13 +7,11 @@ use Rattle.std.proofs.lemmas.List.{length-append, drop_at, get_or_append_left}
 use Rattle.std.proofs.lemmas.List.Folds.{list_all-append}
 use Rattle.std.proofs.lemmas.List.Sums.{position_or_len_is, AllPass-from_list_all}
 use Rattle.std.proofs.Math.Seq.{get_or-append_seam, take-append_seam}
+use Rattle.std.proofs.lemmas.Bool.{and_from}
 use Rattle.bulk_base.specs.Names.{is_digit, is_alphanumeric, is_made_of, is_port_byte, is_port_name, is_flavor, is_version, is_shown_number, IsOrigin, IsNode, IsPackageName, node_of}
 use Rattle.pkg_record.specs.Forms.{is_mark, front, back, is_origin, is_node, is_revised, is_full_version, is_parted_at, some_below, is_package_name}
 use Rattle.pkg_record.proofs.Places.{some_below-at}
 use Rattle.pkg_record.proofs.Names.{list_all-weaken, made_of, tail_of}
-
-pub both_true : (a b : Bool) → a ≡ true → b ≡ true → (a && b) ≡ true
-both_true a b p q = grind arith
 
 left_true : (a b : Bool) → a ≡ true → (a || b) ≡ true
 left_true a b p = grind arith
@@ -54,7 +52,7 @@ pub found_below : (mark : ℕ) (a b : List ℕ) → Lacks mark a → position_or
 found_below mark a b h = omega (arith, cut_place mark a b h, length-append a (mark ∷ b))
 
 pub lacks_joined : (mark : ℕ) (a b : List ℕ) → Lacks mark a → Lacks mark b → Lacks mark (a ++ b)
-lacks_joined mark a b p q = list_all-append (differs mark) a b ∙ both_true _ _ p q
+lacks_joined mark a b p q = list_all-append (differs mark) a b ∙ and_from _ _ p q
 
 -- ---- names
 
@@ -80,7 +78,7 @@ pub origin_again : (text : List ℕ) → IsOrigin text → is_origin text ≡ tr
 origin_again text o =
     let lacks : Lacks 47 o.category = list_all-weaken is_port_byte (differs 47) port_slash o.category (port_bytes o.category o.category_form) in
     ap is_origin o.spelled
-    ∙ both_true _ _ (ap is_port_name (front_again 47 o.category o.port lacks) ∙ o.category_form) (ap is_port_name (back_again 47 o.category o.port lacks) ∙ o.port_form)
+    ∙ and_from _ _ (ap is_port_name (front_again 47 o.category o.port lacks) ∙ o.category_form) (ap is_port_name (back_again 47 o.category o.port lacks) ∙ o.port_form)
 
 origin_at : (text : List ℕ) → IsOrigin text → Lacks 64 text
 origin_at text o =
@@ -91,7 +89,7 @@ origin_at text o =
 node_is : (origin : List ℕ) (flavor : Option (List ℕ)) → IsOrigin origin → IfSome flavor (λ f. IsTrue (is_flavor f)) → is_node (node_of origin flavor) ≡ true
 node_is origin None o h = left_true _ _ (origin_again origin o)
 node_is origin (Some flavor) o h =
-    right_true _ _ (both_true _ _ (ap is_origin (front_again 64 origin flavor (origin_at origin o)) ∙ origin_again origin o) (ap is_flavor (back_again 64 origin flavor (origin_at origin o)) ∙ h))
+    right_true _ _ (and_from _ _ (ap is_origin (front_again 64 origin flavor (origin_at origin o)) ∙ origin_again origin o) (ap is_flavor (back_again 64 origin flavor (origin_at origin o)) ∙ h))
 
 pub node_again : (text : List ℕ) → IsNode text → is_node text ≡ true
 node_again text n = ap is_node n.spelled ∙ node_is n.origin n.flavor n.origin_form n.flavor_form
@@ -103,7 +101,7 @@ revised_again : (version : List ℕ) (revision : Option (List ℕ)) → is_versi
 revised_again version None v h = ap is_revised (append-nil version) ∙ left_true _ _ v
 revised_again version (Some r) v h =
     let lacks : Lacks 95 version = list_all-weaken _ (differs 95) version_underscore version (version_bytes version v) in
-    right_true _ _ (both_true _ _ (ap is_version (front_again 95 version r lacks) ∙ v) (ap is_shown_number (back_again 95 version r lacks) ∙ h))
+    right_true _ _ (and_from _ _ (ap is_version (front_again 95 version r lacks) ∙ v) (ap is_shown_number (back_again 95 version r lacks) ∙ h))
 
 shown_digits : (text : List ℕ) → is_shown_number text ≡ true → list_all is_digit text ≡ true
 shown_digits text h = grind arith
@@ -115,12 +113,12 @@ revised_comma version (Some r) v h =
 
 full_again : (revised : List ℕ) (epoch : Option (List ℕ)) → is_revised revised ≡ true → Lacks 44 revised → IfSome epoch (λ e. IsTrue (is_shown_number e)) → is_full_version (revised ++ tail_of 44 epoch) ≡ true
 full_again revised None r lacks h = ap is_full_version (append-nil revised) ∙ left_true _ _ r
-full_again revised (Some e) r lacks h = right_true _ _ (both_true _ _ (ap is_revised (front_again 44 revised e lacks) ∙ r) (ap is_shown_number (back_again 44 revised e lacks) ∙ h))
+full_again revised (Some e) r lacks h = right_true _ _ (and_from _ _ (ap is_revised (front_again 44 revised e lacks) ∙ r) (ap is_shown_number (back_again 44 revised e lacks) ∙ h))
 
 parted_again : (base rest : List ℕ) → is_made_of is_port_byte 1 192 base ≡ true → is_full_version rest ≡ true → is_parted_at (base ++ 45 ∷ rest) (length base) ≡ true
 parted_again base rest b r =
-    both_true _ _
-    (both_true _ _ (ap (λ c. c == 45) (get_or-append_seam base 45 rest 0)) (ap (is_made_of is_port_byte 1 192) (take-append_seam base (45 ∷ rest)) ∙ b))
+    and_from _ _
+    (and_from _ _ (ap (λ c. c == 45) (get_or-append_seam base 45 rest 0)) (ap (is_made_of is_port_byte 1 192) (take-append_seam base (45 ∷ rest)) ∙ b))
     (ap is_full_version (behind_seam 45 base rest) ∙ r)
 
 short_enough : (n : ℕ) → n ≤ 200 → nat_le n 200 ≡ true
@@ -135,4 +133,4 @@ name_again text n =
     n.spelled ∙ append_assoc (n.base ++ (45 ∷ n.version)) (tail_of 95 n.revision) (tail_of 44 n.epoch) ∙ append_assoc n.base (45 ∷ n.version) (tail_of 95 n.revision ++ tail_of 44 n.epoch) ∙ ap (λ l. n.base ++ 45 ∷ l) (sym (append_assoc n.version (tail_of 95 n.revision) (tail_of 44 n.epoch))) in
     let parted : some_below (is_parted_at text) (length text) ≡ true =
     some_below-at (is_parted_at text) (length text) (length n.base) (omega (arith, ap length e, length-append n.base (45 ∷ rest))) (ap (λ t. is_parted_at t (length n.base)) e ∙ parted_again n.base rest n.base_form full) in
-    both_true _ _ (short_enough (length text) n.short) parted
+    and_from _ _ (short_enough (length text) n.short) parted

@@ -2,19 +2,15 @@
 use Rattle.std.proofs.Common.{◌≡◌, ℕ, ◌≤◌, Bool, true, false, List, length, arith, ap, sym, ◌∙◌, inl, inr}
 use Rattle.std.specs.Prelude.{◌&&◌, not, nat_le, Some, None, cond, unwrap_or, ◌⊎◌}
 use Rattle.std.specs.List.{list_all}
-use Rattle.std.proofs.lemmas.Bool.{cases_Bool, and_parts}
+use Rattle.std.proofs.lemmas.Bool.{cases_Bool, and_parts, and_from}
 use Rattle.std.proofs.lemmas.Bool.Decides.{nat_tests}
-use Rattle.std.proofs.lemmas.Str.{is_utf8-from_IsUtf8}
 use Rattle.bulk_base.specs.declared.file.FileItem.{FileItem}
 use Rattle.bulk_base.specs.Text.{is_text, IsText}
 use Rattle.bulk_base.specs.Path.{is_path, is_below, IsPath}
-use Rattle.bulk_base.proofs.Paths.{IsText-from_is_text}
+use Rattle.bulk_base.proofs.TextTests.{IsText-from_is_text, is_text-from_IsText}
 use Rattle.bulk_model.specs.Facts.{paths_of}
 use Rattle.pkg_record.specs.Said.{passing}
 use Rattle.pkg_record.specs.Reading.{last_of, path_follows, is_record_path, is_next_path}
-
-is_text-from_IsText : (bytes : List ℕ) → IsText bytes → is_text bytes ≡ true
-is_text-from_IsText bytes h = let e = is_utf8-from_IsUtf8 bytes h.0 in let f = h.1 in grind arith
 
 -- what a path that may follow is
 pub record MayFollow (before : List FileItem) (path : List ℕ) : Type 0 where
@@ -32,14 +28,11 @@ may_follow before path h =
     let d = and_parts (is_text path) (is_path path) c.0 in
     record { text = d.0; form = d.1; short = c.1; follows = b.1; free = a.1 }
 
-both : (a b : Bool) → a ≡ true → b ≡ true → (a && b) ≡ true
-both a b p q = grind arith
-
 pub path_taken : (before : List FileItem) (path found : List ℕ) → found ≡ path → IsText path → IsPath path → length path ≤ 1018 → path_follows (last_of before) path ≡ true
     → list_all (λ folder. not (is_below folder path)) (paths_of before) ≡ true → Some found ≡ passing (is_next_path before) path
 path_taken before path found e text form short follows free =
     let small : nat_le (length path) 1018 ≡ true = grind (arith, nat_tests) in
-    let next : is_next_path before path ≡ true = both _ _ (both _ _ (both _ _ (both _ _ (is_text-from_IsText path text) form) small) follows) free in
+    let next : is_next_path before path ≡ true = and_from _ _ (and_from _ _ (and_from _ _ (and_from _ _ (is_text-from_IsText path text) form) small) follows) free in
     ap Some e ∙ sym (ap (λ b. cond b (Some path) None) next)
 
 pub path_refused : (before : List FileItem) (path : List ℕ) → ((IsText path × IsPath path) → ⊥) → None ≡ passing (is_next_path before) path

@@ -6,7 +6,7 @@ use Rattle.std.specs.List.{list_all, starts_with}
 use Rattle.std.specs.Char.{is_ascii_digit}
 use Rattle.std.specs.Fmt.{decimal}
 use Rattle.std.specs.Str.Parse.{digits_value}
-use Rattle.std.proofs.lemmas.Bool.{cases_Bool, lt-ltb}
+use Rattle.std.proofs.lemmas.Bool.{cases_Bool, lt-ltb, and_from}
 use Rattle.std.proofs.lemmas.Bool.Decides.{nat_tests, Decides-eqb}
 use Rattle.std.proofs.lemmas.Fmt.{digits_value-decimal, decimal_by_steps, decimal_nonempty, first_decimal, decimal_digit}
 use Rattle.std.proofs.lemmas.List.{length-append, drop_at}
@@ -25,7 +25,7 @@ use Rattle.pkg_record.specs.Forms.{front, back, is_node, is_package_name}
 use Rattle.pkg_record.specs.Said.{behind, passing, word_behind, flavor_of, flavor_said, is_numeral, count_of, count_behind, switch_of, switch, named_switch, switch_in, option_said, kind_of, depend, named_depend, depend_in, depend_said, file_in, file_said}
 use Rattle.pkg_record.specs.Reading.{◌>>=◌, line_at, fitting, said_at, piece_at}
 use Rattle.pkg_record.proofs.Names.{is_visible, is_plain, list_all-weaken, option_name, node_plain}
-use Rattle.pkg_record.proofs.NamesAgain.{both_true, differs, Lacks, front_again, back_again, found_below}
+use Rattle.pkg_record.proofs.NamesAgain.{differs, Lacks, front_again, back_again, found_below}
 
 -- ---- a line
 
@@ -69,8 +69,8 @@ digit_is n l = grind (arith, nat_tests)
 
 decimal_digits : (n : ℕ) → n < 2 ^ 64 → list_all is_ascii_digit (decimal n) ≡ true
 decimal_digits = decimal_by_steps (λ n ds. list_all is_ascii_digit ds ≡ true)
-    (λ n l. both_true _ true (digit_is n l) refl)
-    (λ n ds l h. list_all-append is_ascii_digit ds ((48 + n % 10) ∷ []) ∙ both_true _ _ h (both_true _ true (digit_is (n % 10) (omega arith)) refl))
+    (λ n l. and_from _ true (digit_is n l) refl)
+    (λ n ds l h. list_all-append is_ascii_digit ds ((48 + n % 10) ∷ []) ∙ and_from _ _ h (and_from _ true (digit_is (n % 10) (omega arith)) refl))
 
 numeral_test : (ds : List ℕ) → list_all is_ascii_digit ds ≡ true → 0 < length ds → (length ds ≡ 1) ⊎ (48 < get_or ds 0 0) → is_numeral ds ≡ true
 numeral_test ds digits some (inl one) = grind (arith, nat_tests)
@@ -87,7 +87,7 @@ digits_again n l = counted (2 ^ 64) l
     counted limit below =
         let value : digits_value 10 (decimal n) ≡ n = digits_value-decimal own n l in
         ap (λ v. cond (is_numeral (decimal n) && ltb v limit) (Some v) None) value
-        ∙ ap (λ b. cond b (Some n) None) (both_true _ _ (decimal_is_numeral n l) (lt-ltb n limit below))
+        ∙ ap (λ b. cond b (Some n) None) (and_from _ _ (decimal_is_numeral n l) (lt-ltb n limit below))
 
 pub count_again : (heading : List ℕ) (n : ℕ) → n < 2 ^ 64 → count_behind heading (heading ++ decimal n) ≡ Some n
 count_again heading n l = ap (option_and_then count_of) (heading_again heading (decimal n)) ∙ digits_again n l
@@ -149,7 +149,7 @@ depend_words_again kind node name n m =
     ap₂ (λ a b. option_and_then (named_depend (front 32 b) (back 32 b)) (kind_of a)) (front_again 32 (kind_word kind) rest k.1) (back_again 32 (kind_word kind) rest k.1)
     ∙ ap (option_and_then (named_depend (front 32 rest) (back 32 rest))) k.0
     ∙ ap₂ (λ a b. named_depend a b kind) (front_again 32 node name lacks) (back_again 32 node name lacks)
-    ∙ ap (λ b. cond b (Some (depend kind node name)) None) (both_true _ _ n m)
+    ∙ ap (λ b. cond b (Some (depend kind node name)) None) (and_from _ _ n m)
 
 pub depend_again : (d : Depend) → is_node d.node ≡ true → is_package_name d.name ≡ true → depend_said (codes "depend " ++ kind_word d.kind ++ codes " " ++ d.node ++ codes " " ++ d.name) ≡ Some d
 depend_again d n m =

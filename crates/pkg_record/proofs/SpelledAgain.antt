@@ -5,7 +5,7 @@ use Rattle.std.specs.Option.{option_and_then}
 use Rattle.std.specs.List.{flat_map, list_all, AllByRecursion}
 use Rattle.std.specs.Fmt.{decimal}
 use Rattle.std.specs.Ordering.{is_lt}
-use Rattle.std.proofs.lemmas.Bool.{and_parts}
+use Rattle.std.proofs.lemmas.Bool.{and_parts, and_from}
 use Rattle.std.proofs.lemmas.List.{length-append, length-map, nil_from_length, map-append, get_or_append_left}
 use Rattle.std.proofs.lemmas.List.Concat.{flat_map-cons}
 use Rattle.std.proofs.lemmas.List.Folds.{list_all-append}
@@ -37,7 +37,7 @@ use Rattle.pkg_record.specs.Said.{passing, word_behind, flavor_said, count_behin
 use Rattle.pkg_record.specs.Reading.{◌>>=◌, said_at, piece_at, last_of, option_follows, next_option, option_at, depend_follows, next_depend, depend_at, path_follows, is_record_path, is_next_path, next_file, file_at, items_at, listed_at, unsigned_at, signed, signed_at, digest_of, judged, record_of}
 use Rattle.pkg_record.specs.Laws.{HasRecord}
 use Rattle.pkg_record.proofs.Names.{list_all-weaken, option_name, node_plain, package_name_plain, origin_plain, flavor_name, digest_text}
-use Rattle.pkg_record.proofs.NamesAgain.{both_true, differs, Lacks, lacks_joined, origin_again, node_again, name_again}
+use Rattle.pkg_record.proofs.NamesAgain.{differs, Lacks, lacks_joined, origin_again, node_again, name_again}
 use Rattle.pkg_record.proofs.SaidAgain.{said_again, word_again, flavor_again, count_again, plain_line, decimal_plain, option_again, kind_line, depend_again, file_again, piece_again}
 use Rattle.pkg_record.proofs.Taken.{ok_is}
 use Rattle.pkg_record.proofs.Lists.{order}
@@ -112,7 +112,7 @@ apart_at path more all before (f ∷ folders) e h =
     let a = and_parts (list_all (λ q. not (is_below f q)) all) _ h in
     let here : list_all (λ q. not (is_below f q)) (before ++ path ∷ more) ≡ true = ap (list_all (λ q. not (is_below f q))) (sym e) ∙ a.0 in
     let b = and_parts (list_all (λ q. not (is_below f q)) before) (list_all (λ q. not (is_below f q)) (path ∷ more)) (sym (list_all-append (λ q. not (is_below f q)) before (path ∷ more)) ∙ here) in
-    both_true _ _ (and_parts (not (is_below f path)) _ b.1).0 (apart_at path more all before folders e a.1)
+    and_from _ _ (and_parts (not (is_below f path)) _ b.1).0 (apart_at path more all before folders e a.1)
 
 free_before : (before : List FileItem) (x : FileItem) (more : List FileItem) → has_no_folder (paths_of (before ++ x ∷ more)) ≡ true → list_all (λ f. not (is_below f x.path)) (paths_of before) ≡ true
 free_before before x more h =
@@ -137,7 +137,7 @@ file_item_again before x more rest form =
     let path : is_record_path x.path ≡ true = (test_at is_record_path (λ f. f.path) before x more form.paths).1 in
     let size : length x.bytes < 2 ^ 64 = all_at (λ f. length f.bytes < 2 ^ 64) before x more form.sizes in
     let follows : path_follows (last_of before) x.path ≡ true = follows_by before x (λ l. path_follows l x.path) refl (last_less (λ f. f.path) before x more form.facts.order) in
-    let next : is_next_path before x.path ≡ true = both_true _ _ (both_true _ _ path follows) (free_before before x more form.facts.apart) in
+    let next : is_next_path before x.path ≡ true = and_from _ _ (and_from _ _ path follows) (free_before before x more form.facts.apart) in
     let text = codes "file " ++ decimal (length x.bytes) ++ codes " " ++ x.path in
     let lacks : Lacks 10 text =
     lacks_joined 10 (codes "file " ++ decimal (length x.bytes) ++ codes " ") x.path
@@ -276,7 +276,7 @@ pub digest_form : (bytes : List ℕ) → is_digest (encode_lower (sha256 bytes))
 digest_form bytes = sized (encode_lower (sha256 bytes)) (length-encode_with lower_digits (sha256 bytes) ∙ ap (λ n. 2 * n) (length-sha256 bytes)) (hex_bytes (sha256 bytes) (sha256_bytes bytes))
   where
     sized : (text : List ℕ) → length text ≡ 64 → list_all is_hex_byte text ≡ true → is_digest text ≡ true
-    sized text size h = both_true _ _ (both_true _ _ (ap (nat_le 64) size) (ap (λ n. nat_le n 64) size)) h
+    sized text size h = and_from _ _ (and_from _ _ (ap (nat_le 64) size) (ap (λ n. nat_le n 64) size)) h
 
 pub last_line_again : (stated : List ℕ) → is_digest stated ≡ true → said_at (word_behind (codes "sha256 ") is_digest) (line (codes "sha256 " ++ stated)) ≡ Ok (stated, [])
 last_line_again stated d =

@@ -5,7 +5,7 @@ use Rattle.std.specs.Option.{option_map, option_and_then}
 use Rattle.std.specs.List.{starts_with, position_or_len}
 use Rattle.std.specs.Fmt.{decimal}
 use Rattle.std.specs.Str.Parse.{digits_value}
-use Rattle.std.proofs.lemmas.Bool.{eqb-true}
+use Rattle.std.proofs.lemmas.Bool.{eqb-true, and_parts}
 use Rattle.std.proofs.lemmas.Bool.Decides.{nat_tests, Decides-eqb}
 use Rattle.std.proofs.lemmas.Fmt.{decimal-digits_value}
 use Rattle.std.proofs.lemmas.List.{length-drop, take-append-drop, drop_more, length-take-le}
@@ -24,7 +24,7 @@ use Rattle.pkg_record.specs.declared.fault.Fault.TheVariants.{Short, Misfit}
 use Rattle.pkg_record.specs.Forms.{is_mark, front, back, is_node, is_package_name, some_below, is_parted_at}
 use Rattle.pkg_record.specs.Said.{behind, passing, word_behind, flavor_of, flavor_said, is_numeral, count_of, count_behind, switch_of, switch, named_switch, switch_in, option_said, kind_of, depend, named_depend, depend_in, depend_said, file_in, file_said}
 use Rattle.pkg_record.specs.Reading.{◌>>=◌, line_at, fitting, said_at, piece_at}
-use Rattle.pkg_record.proofs.Names.{both, parted, some_below-place}
+use Rattle.pkg_record.proofs.Names.{parted, some_below-place}
 use Rattle.pkg_record.proofs.Numerals.{digits_of}
 
 -- ---- steps that gave a value
@@ -134,7 +134,7 @@ digits_taken digits n e = counted (2 ^ 64) refl e
     counted : (limit : ℕ) → limit ≡ 2 ^ 64 → cond (is_numeral digits && ltb (digits_value 10 digits) limit) (Some (digits_value 10 digits)) None ≡ Some n → digits ≡ decimal n
     counted limit same e =
         let g = given (is_numeral digits && ltb (digits_value 10 digits) limit) (digits_value 10 digits) n e in
-        let p = both (is_numeral digits) (ltb (digits_value 10 digits) limit) g.0 in
+        let p = and_parts (is_numeral digits) (ltb (digits_value 10 digits) limit) g.0 in
         let short : digits_value 10 digits < 2 ^ 64 = omega (arith, below _ _ p.1, same) in
         sym (decimal-digits_value own digits (digits_of digits p.0) (numeral_filled digits p.0) (numeral_zero digits p.0) short) ∙ ap decimal g.1
 
@@ -191,7 +191,7 @@ kind_taken word kind e = elim (chosen (bytes_eq word (codes "pkg")) (Some Pkg) _
 
 pub package_name_filled : (text : List ℕ) → is_package_name text ≡ true → 0 < length text
 package_name_filled text h =
-    let k = some_below-place (is_parted_at text) (length text) (both (nat_le (length text) 200) (some_below (is_parted_at text) (length text)) h).1 in
+    let k = some_below-place (is_parted_at text) (length text) (and_parts (nat_le (length text) 200) (some_below (is_parted_at text) (length text)) h).1 in
     omega (arith, k.1)
 
 pub depend_taken : (text : List ℕ) (found : Depend) → depend_said text ≡ Some found → line text ≡ depend_line found
@@ -202,7 +202,7 @@ depend_taken text found e =
     let k = then_some (kind_of (front 32 words)) (named_depend (front 32 rest) (back 32 rest)) found t.2 in
     let kind : front 32 words ≡ kind_word k.0 = kind_taken (front 32 words) k.0 k.1 in
     let g = given (is_node (front 32 rest) && is_package_name (back 32 rest)) (depend k.0 (front 32 rest) (back 32 rest)) found k.2 in
-    let filled : 0 < length (back 32 rest) = package_name_filled (back 32 rest) (both (is_node (front 32 rest)) (is_package_name (back 32 rest)) g.0).1 in
+    let filled : 0 < length (back 32 rest) = package_name_filled (back 32 rest) (and_parts (is_node (front 32 rest)) (is_package_name (back 32 rest)) g.0).1 in
     let some_rest : 0 < length rest = omega (arith, filled, length-drop (position_or_len (is_mark 32) rest + 1) rest) in
     let first : words ≡ kind_word k.0 ++ 32 ∷ rest = parted 32 words some_rest ∙ ap (λ w. w ++ 32 ∷ rest) kind in
     let second : rest ≡ front 32 rest ++ 32 ∷ back 32 rest = parted 32 rest filled in

@@ -44,24 +44,10 @@ pub(crate) fn option_item<'a>(
     Ok((Switch { name, on }, after))
 }
 
-fn kind_number(kind: DepKind) -> u8
-    ensures { result ≡ Rattle.bulk_model.specs.Facts.kind_number kind }
-{
-    match kind {
-        DepKind::Pkg => 0,
-        DepKind::Fetch => 1,
-        DepKind::Extract => 2,
-        DepKind::Patch => 3,
-        DepKind::Build => 4,
-        DepKind::Lib => 5,
-        DepKind::Run => 6,
-    }
-}
-
 fn comes_before(last: &Depend, kind: DepKind, node: &[u8], name: &[u8]) -> bool
     ensures { result ≡ Rattle.bulk_model.specs.Facts.comes_before last.now (said.depend kind node.now name.now) }
 {
-    let by_kind = kind_number(last.kind).cmp(&kind_number(kind));
+    let by_kind = last.kind.number().cmp(&kind.number());
     by_kind.then(last.node.bytes().cmp(node)).is_lt()
 }
 

@@ -3,6 +3,7 @@ use Rattle.std.proofs.Common.{◌≡◌, ℕ, ◌≤◌, Bool, true, false, List
 use Rattle.std.specs.Prelude.{not, ◌&&◌, ◌==◌, filter, bytes_eq}
 use Rattle.std.specs.List.{AllByRecursion, IsDistinct, list_all, slice_split}
 use Rattle.std.proofs.lemmas.Bool.Decides.{nat_tests}
+use Rattle.std.proofs.lemmas.Bool.{and_parts}
 use Rattle.bulk_base.specs.Names.{IsNode}
 use Rattle.bulk_base.specs.Words.{is_filled}
 use Rattle.bulk_model.specs.Facts.{kind_number}
@@ -10,7 +11,6 @@ use Rattle.bulk_model.specs.declared.depend.DepKind.{DepKind}
 use Rattle.port_vars.specs.Reference.{Values}
 use Rattle.port_vars.specs.Assignment.{◌>>=◌}
 use Rattle.port_name.specs.Forms.{is_node}
-use Rattle.port_name.proofs.Plain.{both}
 use Rattle.port_name.proofs.Origins.{IsNode-from_test}
 use Rattle.port_desc.specs.declared.fault.DescError.{DescError}
 use Rattle.port_desc.specs.declared.fault.DescError.TheVariants.{BadDepend, Limit}
@@ -24,7 +24,7 @@ AreNodes targets = AllByRecursion (λ target. is_node target ≡ true) targets
 
 -- a target is a node
 behind_case : (word what node target : List ℕ) (b : Bool) → (is_filled what && is_node node) ≡ b → cond b (Ok node) (Err (BadDepend word)) ≡ Ok target → is_node target ≡ true
-behind_case word what node target true e h = ap is_node (sym (same_ok node target h)) ∙ (both (is_filled what) (is_node node) e).1
+behind_case word what node target true e h = ap is_node (sym (same_ok node target h)) ∙ (and_parts (is_filled what) (is_node node) e).1
 behind_case word what node target false e h = absurd (no_err (BadDepend word) target h)
 
 in_case : (word target : List ℕ) (parts : List (List ℕ)) → target_in word parts ≡ Ok target → is_node target ≡ true
@@ -140,7 +140,7 @@ module _ (values : Values) (flavor : Option (List ℕ)) (on : List (List ℕ)) w
   among_other kind [] entries f h = subst (AllByRecursion (IsOther kind)) (same_ok [] entries h) tt
   among_other kind (other ∷ more) entries f h =
       let p = parts other more entries h in
-      let fresh = both (differs kind other) (list_all (differs kind) more) f in
+      let fresh = and_parts (differs kind other) (list_all (differs kind) more) f in
       subst (AllByRecursion (IsOther kind)) p.4
       (all_append (IsOther kind) (entries_with other p.0) p.1 (with_other kind other p.0 fresh.0) (among_other kind more p.1 fresh.1 p.3))
 
@@ -160,7 +160,7 @@ module _ (values : Values) (flavor : Option (List ℕ)) (on : List (List ℕ)) w
   among_distinct [] entries f h = subst (IsDistinct is_same) (same_ok [] entries h) tt
   among_distinct (kind ∷ more) entries f h =
       let p = parts kind more entries h in
-      let fresh = both (is_fresh kind more) (are_fresh more) f in
+      let fresh = and_parts (is_fresh kind more) (are_fresh more) f in
       subst (IsDistinct is_same) p.4
       (distinct_append is_same (entries_with kind p.0) p.1 (with_distinct kind p.0) (among_distinct more p.1 fresh.1 p.3)
       (apart_all kind p.0 p.1 (fresh_kind kind more p.1 fresh.0 p.3)))

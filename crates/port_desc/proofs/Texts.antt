@@ -8,7 +8,7 @@ use Rattle.std.proofs.lemmas.List.Folds.{list_all-append}
 use Rattle.std.specs.List.{list_all}
 use Rattle.bulk_base.specs.Text.{IsText, is_text, is_plain_text, has_text_bytes}
 use Rattle.bulk_base.specs.Names.{is_flavor, IsOrigin, node_of}
-use Rattle.bulk_base.proofs.Paths.{is_text-plain, IsText-from_is_text}
+use Rattle.bulk_base.proofs.TextTests.{is_text-plain, IsText-from_is_text}
 use Rattle.port_vars.proofs.TextParts.{IsText-append}
 use Rattle.port_name.specs.Forms.{is_node, is_flavor_byte}
 use Rattle.port_name.proofs.Plain.{is_plain_byte, together, list_all-weaken, port_name_plain}

@@ -1,4 +1,4 @@
-pub mod Places
+pub mod Separators
 pub mod SetView
 pub mod Plain
 pub mod Origins

@@ -6,14 +6,15 @@ use Rattle.std.proofs.lemmas.List.{drop_all, take_all, take_rest}
 use Rattle.std.proofs.lemmas.List.Sums.{split_at_first, passes_at_first}
 use Rattle.std.proofs.lemmas.List.Folds.{list_all-append}
 use Rattle.std.proofs.lemmas.Bool.Decides.{nat_tests}
-use Rattle.std.proofs.lemmas.Bool.{cases_lt, eqb-true}
+use Rattle.std.proofs.lemmas.Bool.{cases_lt, eqb-true, and_parts}
 use mathlib.Core.Bool.{true≢false}
 use Rattle.std.specs.Prelude.{◌↔◌}
 use Rattle.bulk_base.specs.Path.{is_slash}
 use Rattle.bulk_base.specs.Names.{is_port_name, is_flavor, IsOrigin, IsNode, origin_of, node_of}
 use Rattle.port_name.specs.Forms.{is_origin, is_node, is_at}
-use Rattle.port_name.proofs.Places.{place_none, before_separator, after_separator, none}
-use Rattle.port_name.proofs.Plain.{both, together, port_name_bytes, no_slash, no_at}
+use Rattle.bulk_base.proofs.Places.{place_none, none}
+use Rattle.port_name.proofs.Separators.{before_separator, after_separator}
+use Rattle.port_name.proofs.Plain.{together, port_name_bytes, no_slash, no_at}
 
 no_name : {name : List ℕ} → is_port_name name ≡ true → name ≡ [] → ⊥
 no_name {name} h e = true≢false (sym h ∙ ap is_port_name e)
@@ -24,7 +25,7 @@ no_flavor {name} h e = true≢false (sym h ∙ ap is_flavor e)
 pub slash_within : (word : List ℕ) → is_origin word ≡ true → position_or_len is_slash word < length word
 slash_within word h = elim (cases_lt (position_or_len is_slash word) (length word)) [
   | inl l ↦ l
-  | inr g ↦ absurd (no_name (both (is_port_name (before_first is_slash word)) (is_port_name (after_first is_slash word)) h).1 (drop_all (position_or_len is_slash word + 1) word (omega arith)))
+  | inr g ↦ absurd (no_name (and_parts (is_port_name (before_first is_slash word)) (is_port_name (after_first is_slash word)) h).1 (drop_all (position_or_len is_slash word + 1) word (omega arith)))
 ]
 
 slash_there : (word : List ℕ) → position_or_len is_slash word < length word → get_or word (position_or_len is_slash word) 0 ≡ 47
@@ -38,7 +39,7 @@ origin_spelled word h =
 -- a test that passes gives the origin
 pub IsOrigin-from_test : (word : List ℕ) → is_origin word ≡ true → IsOrigin word
 IsOrigin-from_test word h =
-    let parts = both (is_port_name (before_first is_slash word)) (is_port_name (after_first is_slash word)) h in
+    let parts = and_parts (is_port_name (before_first is_slash word)) (is_port_name (after_first is_slash word)) h in
     record {
       category = before_first is_slash word;
       port = after_first is_slash word;
@@ -88,7 +89,7 @@ end_case word false e o h = elim (cases_lt (position_or_len is_at word) (length 
 -- a test that passes gives the node
 pub IsNode-from_test : (word : List ℕ) → is_node word ≡ true → IsNode word
 IsNode-from_test word h =
-    let parts = both (is_origin (before_first is_at word)) (at_end word || is_flavor (after_first is_at word)) h in
+    let parts = and_parts (is_origin (before_first is_at word)) (at_end word || is_flavor (after_first is_at word)) h in
     end_case word (at_end word) refl (IsOrigin-from_test (before_first is_at word) parts.0) parts.1
 
 at_length : (n m : ℕ) → n ≡ m → (n == m) ≡ true
@@ -138,4 +139,4 @@ pub back_is : (word : List ℕ) (slash : ℕ) → slash ≡ position_or_len is_s
 back_is word slash e = take_rest word (slash + 1) ∙ ap (λ n. drop (n + 1) word) e
 
 pub names_in_form : (word : List ℕ) → is_origin word ≡ true → (is_port_name (before_first is_slash word) ≡ true) × (is_port_name (after_first is_slash word) ≡ true)
-names_in_form word h = both (is_port_name (before_first is_slash word)) (is_port_name (after_first is_slash word)) h
+names_in_form word h = and_parts (is_port_name (before_first is_slash word)) (is_port_name (after_first is_slash word)) h

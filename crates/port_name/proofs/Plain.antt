@@ -3,6 +3,7 @@ use Rattle.std.proofs.Common.{◌≡◌, ℕ, Bool, true, List, [], ◌∷◌, a
 use Rattle.std.specs.Prelude.{◌&&◌, not}
 use Rattle.std.specs.List.{list_all}
 use Rattle.std.proofs.lemmas.Bool.Decides.{nat_tests}
+use Rattle.std.proofs.lemmas.Bool.{and_parts}
 use Rattle.bulk_base.specs.Text.{is_text_byte, is_plain_text}
 use Rattle.bulk_base.specs.Path.{is_slash}
 use Rattle.bulk_base.specs.Names.{is_port_byte, is_port_name, is_digit}
@@ -11,16 +12,13 @@ use Rattle.port_name.specs.Forms.{is_version_byte, is_at}
 abbrev pub is_plain_byte : ℕ → Bool
 is_plain_byte b = nat_lt b 128 && is_text_byte b
 
-pub both : (a b : Bool) → (a && b) ≡ true → (a ≡ true) × (b ≡ true)
-both a b t = grind arith
-
 pub together : (a b : Bool) → a ≡ true → b ≡ true → (a && b) ≡ true
 together a b p q = grind arith
 
 pub list_all-weaken : (p q : ℕ → Bool) → ((b : ℕ) → p b ≡ true → q b ≡ true) → (xs : List ℕ) → list_all p xs ≡ true → list_all q xs ≡ true
 list_all-weaken p q h [] t = refl
 list_all-weaken p q h (x ∷ xs) t =
-    let parts = both (p x) (list_all p xs) t in
+    let parts = and_parts (p x) (list_all p xs) t in
     together (q x) (list_all q xs) (h x parts.0) (list_all-weaken p q h xs parts.1)
 
 port_byte : (b : ℕ) → is_port_byte b ≡ true → is_plain_byte b ≡ true

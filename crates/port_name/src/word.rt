@@ -10,20 +10,13 @@ ghost use Rattle.port_name.specs.Forms.{is_at};
 use crate::fault::{NameError, NamePart};
 use crate::form::{is_flavor, is_port_name};
 use crate::place::Origin;
-use bulk_base::{NoMemory, Text};
+use bulk_base::{NoMemory, Text, place_or_end};
 use std::alloc::Global;
-
-fn slash_place(word: &[u8]) -> usize
-    ensures place { result ≡ position_or_len is_slash word.now }
-    ensures within { result ≤ length word.now }
-{
-    word.iter().position(|b| *b == b'/').unwrap_or(word.len())
-}
 
 fn has_origin_form(word: &[u8]) -> bool
     ensures { result ≡ forms.is_origin word.now }
 {
-    let slash = slash_place(word);
+    let slash = place_or_end(word, b'/');
     slash < word.len() && is_port_name(&word[..slash]) && is_port_name(&word[slash + 1..])
 }
 
@@ -64,7 +57,7 @@ pub fn origin(alloc: Global, word: &Text) -> Result<Origin, NameError>
             which: NamePart::Origin,
         });
     }
-    Ok(parted(alloc, bytes, slash_place(bytes))?)
+    Ok(parted(alloc, bytes, place_or_end(bytes, b'/'))?)
 }
 
 /// The flavor that a word names: 1 to 32 lower-case letters, digits and `_`. BadName with Flavor exactly where the word is
@@ -83,13 +76,6 @@ pub fn flavor(alloc: Global, word: &Text) -> Result<Text, NameError>
     Ok(word.copy(alloc)?)
 }
 
-fn at_place(word: &[u8]) -> usize
-    ensures place { result ≡ position_or_len is_at word.now }
-    ensures within { result ≤ length word.now }
-{
-    word.iter().position(|b| *b == b'@').unwrap_or(word.len())
-}
-
 /// Whether a place is the word's end, or what stands behind the byte at it is a flavor.
 fn has_flavor_behind(word: &[u8], at: usize) -> bool
     requires { at ≤ length word.now }
@@ -101,7 +87,7 @@ fn has_flavor_behind(word: &[u8], at: usize) -> bool
 fn has_node_form(word: &[u8]) -> bool
     ensures { result ≡ forms.is_node word.now }
 {
-    let at = at_place(word);
+    let at = place_or_end(word, b'@');
     has_origin_form(&word[..at]) && has_flavor_behind(word, at)
 }
 

@@ -5,7 +5,7 @@ use Rattle.std.specs.Option.{ok_or}
 use Rattle.std.specs.List.{position}
 use Rattle.port_vars.specs.declared.fault.LineKind.{LineKind}
 use Rattle.port_vars.specs.declared.fault.LineKind.TheVariants.{NoOperator, BadName, Reference}
-use Rattle.port_vars.specs.Trim.{trim}
+use Rattle.bulk_base.specs.Trim.{trim}
 use Rattle.port_vars.specs.Reference.{Values, is_name, expanded}
 use Rattle.port_vars.specs.Assignment.{Assignment, operator_in, name_in, in_form, within, assigned, ◌>>=◌}
 

@@ -1,14 +1,9 @@
 -- What the loop over a file's lines keeps while it joins them.
-use Rattle.std.proofs.Common.{◌≡◌, ℕ, ◌+◌, ◌≤◌, ◌<◌, Bool, true, false, List, [], ◌∷◌, ◌++◌, length, get_or, drop, cond, ap, sym, ◌∙◌, refl, arith, Option, Some, None}
-use Rattle.std.specs.Prelude.{◌==◌}
-use Rattle.std.specs.List.{slice_split, onto_first}
-use Rattle.std.specs.Str.Lines.{lines, lines_of_parts}
-use Rattle.std.proofs.lemmas.List.{append_assoc, append-nil, drop_more, drop_all, length-map}
-use Rattle.std.proofs.lemmas.List.Splits.{length-slice_split}
-use Rattle.bulk_base.specs.declared.line.Span.{Span}
-use Rattle.bulk_base.specs.Lines.{cut_at, bytes_at}
+use Rattle.std.proofs.Common.{◌≡◌, ℕ, ◌+◌, ◌≤◌, ◌<◌, Bool, true, false, List, [], ◌∷◌, ◌++◌, length, get_or, drop, cond, ap, sym, ◌∙◌, refl, Option, Some, None}
+use Rattle.std.specs.Str.Lines.{lines}
+use Rattle.std.proofs.lemmas.List.{append_assoc, append-nil, drop_more, drop_all}
 use Rattle.port_vars.specs.declared.joined.Line.{Line}
-use Rattle.port_vars.specs.Trim.{trim_start}
+use Rattle.bulk_base.specs.Trim.{trim_start}
 use Rattle.port_vars.specs.Joined.{ends_in_backslash, body, continued, joined_from, next_line, whole}
 
 abbrev tail : Bool → List (List ℕ) → List ℕ
@@ -59,35 +54,3 @@ pub one_left : (found more : List Line) (line : Line) (number at : ℕ) (lines :
     → whole found (Some line) number (drop at lines) ≡ all → more ≡ all
 one_left found more line number at lines all l pushed so_far =
     pushed ∙ ap (λ x. found ++ x ∷ []) (sym (nothing_more line)) ∙ ap (whole found (Some line) number) (sym (drop_all at lines l)) ∙ so_far
-
--- a file has no more lines than bytes
-size_cons : (x : ℕ) (parts : List (List ℕ)) (n : ℕ) → 0 < length parts → length (lines_of_parts parts) ≤ n → length (lines_of_parts ([] ∷ parts)) ≤ n + 1
-size_cons x [] n some h = absurd (omega arith)
-size_cons x (part ∷ more) n some h = omega arith
-
-one_at_most : (part : List ℕ) (b : Bool) → length (let l : List (List ℕ) = cond b [] (part ∷ []) in l) ≤ 1
-one_at_most part true = omega arith
-one_at_most part false = omega arith
-
-size_onto : (x : ℕ) (parts : List (List ℕ)) (n : ℕ) → 0 < length parts → length (lines_of_parts parts) ≤ n → length (lines_of_parts (onto_first x parts)) ≤ n + 1
-size_onto x [] n some h = absurd (omega arith)
-size_onto x (part ∷ []) n some h = omega (arith, one_at_most (x ∷ part) (length (x ∷ part) == 0))
-size_onto x (part ∷ next ∷ more) n some h = omega arith
-
-abbrev is_newline_byte : ℕ → Bool
-is_newline_byte b = b == 10
-
-size_case : (x : ℕ) (parts : List (List ℕ)) (n : ℕ) (b : Bool) → 0 < length parts → length (lines_of_parts parts) ≤ n → length (lines_of_parts (cond b ([] ∷ parts) (onto_first x parts))) ≤ n + 1
-size_case x parts n true some h = size_cons x parts n some h
-size_case x parts n false some h = size_onto x parts n some h
-
-pub length-lines : (bytes : List ℕ) → length (lines bytes) ≤ length bytes
-length-lines [] = omega arith
-length-lines (x ∷ bytes) =
-    let parts : List (List ℕ) = slice_split is_newline_byte bytes in
-    let some : 0 < length parts = omega (arith, length-slice_split is_newline_byte bytes) in
-    let all : length (lines_of_parts parts) ≤ length bytes = length-lines bytes in
-    omega (arith, size_case x parts (length bytes) (is_newline_byte x) some all)
-
-pub spans_are : (bytes : List ℕ) (spans : List Span) → cut_at bytes spans ≡ lines bytes → length spans ≡ length (lines bytes)
-spans_are bytes spans e = sym (length-map spans (bytes_at bytes)) ∙ ap length e

@@ -3,17 +3,18 @@ use Rattle.std.proofs.Common.{◌≡◌, ℕ, ◌<◌, ◌≤◌, Bool, true, fa
 use Rattle.std.specs.Prelude.{◌&&◌}
 use Rattle.std.specs.Str.{is_utf8}
 use Rattle.std.proofs.lemmas.Str.{is_utf8-from_IsUtf8, IsUtf8-from_is_utf8}
+use Rattle.std.proofs.lemmas.Bool.{and_from}
 use Rattle.bulk_base.specs.Text.{IsText, has_text_bytes}
 use Rattle.port_vars.specs.declared.fault.LineKind.{LineKind}
 use Rattle.port_vars.specs.declared.fault.LineKind.TheVariants.{NotText, TooLong}
 use Rattle.port_vars.specs.Assignment.{readable}
-use Rattle.port_vars.proofs.Decided.{and_true, and_first, and_second, le_true, le_false}
+use Rattle.port_vars.proofs.Decided.{and_first, and_second, le_true, le_false}
 
 abbrev is_text : List ℕ → Bool
 is_text line = is_utf8 line && has_text_bytes line
 
 text_true : (line : List ℕ) → IsText line → is_text line ≡ true
-text_true line h = and_true _ _ (is_utf8-from_IsUtf8 line h.0) h.1
+text_true line h = and_from _ _ (is_utf8-from_IsUtf8 line h.0) h.1
 
 text_false : (line : List ℕ) → (¬ (IsText line)) → (b : Bool) → is_text line ≡ b → b ≡ false
 text_false line h true e = absurd (h (IsUtf8-from_is_utf8 line (and_first _ _ e), and_second _ _ e))

@@ -10,7 +10,7 @@ use Rattle.port_vars.specs.declared.fault.LineError.{LineError}
 use Rattle.port_vars.specs.declared.fault.LineError.TheVariants.{Bad, NoMemory}
 use Rattle.port_vars.specs.declared.limits.Limits.{Limits}
 use Rattle.port_vars.specs.declared.operator.Operator.{Operator}
-use Rattle.port_vars.specs.Trim.{trim}
+use Rattle.bulk_base.specs.Trim.{trim}
 use Rattle.port_vars.specs.Reference.{Values, is_name, expanded}
 use Rattle.port_vars.specs.Assignment.{Assignment, operator_in, name_in, within, assigned, mapped, readable, stated, statement, said, ◌>>=◌}
 use Rattle.port_vars.specs.Variables.{Vars, after, after_line}

@@ -4,15 +4,15 @@ use Rattle.std.specs.Str.{IsAscii, IsCharBoundary}
 use Rattle.std.proofs.lemmas.Str.{IsUtf8-append, IsUtf8-between, IsUtf8-nil, IsUtf8-from_ascii, IsCharBoundary-start, IsCharBoundary-end, IsCharBoundary-after_ascii, IsCharBoundary-before_ascii}
 use Rattle.std.proofs.lemmas.List.{take_all, length-drop}
 use Rattle.std.proofs.lemmas.List.Folds.{list_all-append}
+use Rattle.std.proofs.lemmas.Bool.{and_from}
 use Rattle.bulk_base.specs.Text.{IsText, is_text_byte}
 use Rattle.bulk_base.proofs.TextBytes.{list_all-drop, list_all-take}
-use Rattle.port_vars.proofs.Decided.{and_true}
 
 pub IsText-nil : IsText []
 IsText-nil = (IsUtf8-nil, refl)
 
 pub IsText-append : (a b : List ℕ) → IsText a → IsText b → IsText (a ++ b)
-IsText-append a b h k = (IsUtf8-append a b h.0 k.0, list_all-append is_text_byte a b ∙ and_true _ _ h.1 k.1)
+IsText-append a b h k = (IsUtf8-append a b h.0 k.0, list_all-append is_text_byte a b ∙ and_from _ _ h.1 k.1)
 
 pub IsText-between : (bytes : List ℕ) (i j : ℕ) → IsText bytes → i ≤ j → IsCharBoundary bytes i → IsCharBoundary bytes j → IsText (take (j - i) (drop i bytes))
 IsText-between bytes i j h o bi bj = (IsUtf8-between bytes i j h.0 o bi bj, list_all-take is_text_byte (j - i) (drop i bytes) (list_all-drop is_text_byte i bytes h.1))
@@ -39,7 +39,7 @@ one_ascii b l zero = l
 one_ascii b l (suc k) = omega arith
 
 pub IsText-byte : (b : ℕ) → b < 128 → is_text_byte b ≡ true → IsText (b ∷ [])
-IsText-byte b ascii t = (IsUtf8-from_ascii (b ∷ []) (one_ascii b ascii), and_true _ _ t refl)
+IsText-byte b ascii t = (IsUtf8-from_ascii (b ∷ []) (one_ascii b ascii), and_from _ _ t refl)
 
 -- without its last byte, where that is ASCII
 pub IsText-without_last : (bytes : List ℕ) → IsText bytes → 0 < length bytes → get_or bytes (length bytes - 1) 0 < 128 → IsText (take (length bytes - 1) bytes)

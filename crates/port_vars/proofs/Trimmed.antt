@@ -6,7 +6,7 @@ use Rattle.std.proofs.lemmas.Bool.Decides.{nat_tests}
 use Rattle.std.proofs.Math.Seq.{take-append_seam}
 use Rattle.bulk_base.specs.Text.{IsText}
 use Rattle.bulk_base.specs.Words.{is_blank}
-use Rattle.port_vars.specs.Trim.{trim_start, trim}
+use Rattle.bulk_base.specs.Trim.{trim_start, trim}
 use Rattle.port_vars.proofs.TextParts.{IsText-after, IsText-before}
 
 blank_ascii : (b : ℕ) → is_blank b ≡ true → b < 128

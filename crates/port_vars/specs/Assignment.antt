@@ -13,7 +13,7 @@ use Rattle.port_vars.specs.declared.fault.LineKind.TheVariants.{NotText, TooLong
 use Rattle.port_vars.specs.declared.operator.Operator.{Operator}
 use Rattle.port_vars.specs.declared.operator.Operator.TheVariants.{Set, Append, Default}
 use Rattle.port_vars.specs.declared.limits.Limits.{Limits}
-use Rattle.port_vars.specs.Trim.{trim}
+use Rattle.bulk_base.specs.Trim.{trim}
 use Rattle.port_vars.specs.Joined.{without_last}
 use Rattle.port_vars.specs.Comment.{uncommented}
 use Rattle.port_vars.specs.Reference.{Values, is_name, expanded}

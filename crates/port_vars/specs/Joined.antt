@@ -4,7 +4,7 @@ use Rattle.std.specs.declared.option.Option.{Option}
 use Rattle.std.specs.declared.option.Option.TheVariants.{None, Some}
 use Rattle.std.specs.Str.Lines.{lines}
 use Rattle.port_vars.specs.declared.joined.Line.{Line}
-use Rattle.port_vars.specs.Trim.{trim_start}
+use Rattle.bulk_base.specs.Trim.{trim_start}
 
 -- the last byte is `\`
 abbrev pub ends_in_backslash : List ℕ → Bool

@@ -1,4 +1,3 @@
-pub mod Trim
 pub mod Joined
 pub mod Comment
 pub mod Reference

@@ -13,10 +13,9 @@ use crate::fault::{LineError, LineKind};
 use crate::limits::Limits;
 use crate::name::{is_name, name_of};
 use crate::operator::{Operator, operator_of};
-use crate::piece::{place_of, text_of};
+use crate::piece::place_of;
 use crate::reference::expanded;
-use crate::trim::trim;
-use bulk_base::{Bytes, NoMemory, Sequence, Text, TextError, TextMap};
+use bulk_base::{Bytes, NoMemory, Sequence, Text, TextError, TextMap, trim};
 use std::alloc::Global;
 
 /// A value with a text behind it, a space between; the text alone where the value is empty.
@@ -69,12 +68,12 @@ fn assign(
         (mapped (after vars.old) (within limit (map.get vars.old) (record { name = name.now; operator = operator; text = text.now })))
         result vars.new }
 {
-    let name = text_of(alloc, name)?;
+    let name = Text::of(alloc, name)?;
     let value = changed(alloc, operator, vars.get(&name), text)?;
     if value.len() > limit as usize {
         return Err(LineError::Bad(LineKind::TooLong));
     }
-    let value = text_of(alloc, value.as_slice())?;
+    let value = Text::of(alloc, value.as_slice())?;
     vars.insert(name, value)?;
     Ok(())
 }
@@ -97,7 +96,7 @@ fn take_assignment(
     if !is_name(name) {
         return Err(LineError::Bad(LineKind::BadName));
     }
-    let value = text_of(alloc, trim(&statement[equals + 1..]))?;
+    let value = Text::of(alloc, trim(&statement[equals + 1..]))?;
     let text = expanded(alloc, vars, &value, limit as usize + 1)?;
     assign(
         alloc,

@@ -3,7 +3,7 @@ ghost use Rattle.std.specs.Prelude.{◌≡◌, IfOk};
 ghost use Rattle.port_vars.specs.Comment.{kept, uncommented};
 
 use crate::joined::{ends_in_backslash, without_last};
-use crate::piece::{pieces, text_of};
+use crate::piece::pieces;
 use bulk_base::{NoMemory, Text, Texts};
 use std::alloc::Global;
 
@@ -19,10 +19,10 @@ fn kept(alloc: Global, pieces: &Texts) -> Result<Text, NoMemory>
             kept.push(b'#')?;
         } else {
             kept.extend_from_slice(piece)?;
-            return text_of(alloc, kept.as_slice());
+            return Text::of(alloc, kept.as_slice());
         }
     }
-    text_of(alloc, kept.as_slice())
+    Text::of(alloc, kept.as_slice())
 }
 
 /// A joined line without its comment. One pass over its bytes.

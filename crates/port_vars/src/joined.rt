@@ -1,10 +1,8 @@
 // Joined lines.
-ghost use Rattle.std.specs.Prelude.{◌≡◌, ◌<◌, ◌+◌, ◌^◌, ◌∷◌, ℕ, List, All, length, slice_index_or, IfOk};
-ghost use Rattle.bulk_base.specs.Lines.{cut_at, IsSpanWithin};
+ghost use Rattle.std.specs.Prelude.{◌≡◌, ◌<◌, ◌+◌, ◌^◌, ◌∷◌, ℕ, List, length, IfOk};
 ghost use Rattle.port_vars.specs.Joined.{ends_in_backslash, without_last, body, joined, next_line, whole};
 
-use crate::trim::trim_start;
-use bulk_base::{Bytes, NoMemory, Sequence, Spans, lines};
+use bulk_base::{Bytes, NoMemory, Sequence, lines, trim_start};
 use std::alloc::Global;
 
 /// A joined line.
@@ -85,17 +83,6 @@ fn take_line(
     Ok(None)
 }
 
-/// The bytes at one of the spans.
-fn line_at<'a>(bytes: &'a [u8], spans: &Spans, at: usize) -> &'a [u8]
-    requires place { at < length spans.now }
-    requires within { All (IsSpanWithin bytes.now) spans.now }
-    ensures { result.now ≡ slice_index_or (cut_at bytes.now spans.now) at result.now }
-{
-    let spans = spans.as_slice();
-    let span = spans[at];
-    &bytes[span.from as usize..span.to as usize]
-}
-
 /// The joined lines of a file, in order. One pass over the bytes.
 pub(crate) fn joined(alloc: Global, bytes: &[u8]) -> Result<Lines, NoMemory>
     requires { length bytes.now < 2 ^ 32 }
@@ -105,7 +92,7 @@ pub(crate) fn joined(alloc: Global, bytes: &[u8]) -> Result<Lines, NoMemory>
     let mut found = Sequence::new(alloc);
     let mut begun = None;
     for at in 0..spans.len() {
-        let line = line_at(bytes, &spans, at);
+        let line = spans.as_slice()[at].of(bytes);
         begun = take_line(alloc, &mut found, begun, at as u32 + 1, line)?;
     }
     if let Some(line) = begun {

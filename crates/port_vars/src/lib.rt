@@ -12,7 +12,6 @@ mod piece;
 mod reference;
 #[cfg(test)]
 mod tests;
-mod trim;
 mod vars;
 
 pub use fault::{LineKind, VarsError};

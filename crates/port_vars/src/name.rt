@@ -5,7 +5,7 @@ ghost use Rattle.port_vars.specs.Reference.{is_name_byte, is_name};
 ghost use Rattle.port_vars.specs.Assignment.{name_in};
 
 use crate::joined::without_last;
-use crate::trim::trim;
+use bulk_base::trim;
 
 fn has_name_bytes(text: &[u8]) -> bool
     ensures { result ≡ list_all is_name_byte text.now }

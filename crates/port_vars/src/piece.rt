@@ -1,22 +1,9 @@
 // Texts cut at a byte.
 ghost use Rattle.std.specs.Prelude.{◌≡◌, ◌<◌, ◌==◌, length, slice_index, IfOk, IfSome};
 ghost use Rattle.std.specs.List.{slice_split, position};
-ghost use Rattle.bulk_base.specs.Text.{IsText};
 
-use bulk_base::{NoMemory, Sequence, Text, TextError, Texts};
-use std::alloc::{AllocError, Global};
-
-/// The text with the bytes of a text.
-pub(crate) fn text_of(alloc: Global, bytes: &[u8]) -> Result<Text, NoMemory>
-    requires { IsText bytes.now }
-    ensures { IfOk result (λ text. text ≡ bytes.now) }
-{
-    match Text::from_bytes(alloc, bytes) {
-        Ok(text) => Ok(text),
-        Err(TextError::NoMemory) => Err(AllocError),
-        Err(TextError::NotText) => unreachable!(),
-    }
-}
+use bulk_base::{NoMemory, Sequence, Text, Texts};
+use std::alloc::Global;
 
 /// The first place of a byte.
 pub(crate) fn place_of(bytes: &[u8], byte: u8) -> Option<usize>
@@ -36,10 +23,10 @@ pub(crate) fn pieces(alloc: Global, text: &Text, byte: u8) -> Result<Texts, NoMe
     let mut start = 0;
     for at in 0..bytes.len() {
         if bytes[at] == byte {
-            found.push(text_of(alloc, &bytes[start..at])?)?;
+            found.push(Text::of(alloc, &bytes[start..at])?)?;
             start = at + 1;
         }
     }
-    found.push(text_of(alloc, &bytes[start..])?)?;
+    found.push(Text::of(alloc, &bytes[start..])?)?;
     Ok(found)
 }

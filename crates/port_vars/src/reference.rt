@@ -9,7 +9,7 @@ ghost use Rattle.port_vars.specs.declared.fault.LineKind.TheVariants.{Reference 
 
 use crate::fault::{LineError, LineKind};
 use crate::name::is_name;
-use crate::piece::{pieces, place_of, text_of};
+use crate::piece::{pieces, place_of};
 use bulk_base::{Bytes, NoMemory, Sequence, Text, TextMap};
 use std::alloc::Global;
 
@@ -24,7 +24,7 @@ fn value_of<'a>(
     if !is_name(name) {
         return Ok(None);
     }
-    let name = text_of(alloc, name)?;
+    let name = Text::of(alloc, name)?;
     Ok(vars.get(&name))
 }
 

@@ -6,24 +6,21 @@ use Rattle.std.specs.Cmp.Lexicographic.{nat_list_cmp_total}
 use Rattle.std.specs.List.{list_all, fold}
 use Rattle.std.specs.FinMap as finite
 use Rattle.std.specs.FinMap.Entries.{put, by_order}
-use Rattle.std.proofs.lemmas.Bool.{and_parts}
+use Rattle.std.proofs.lemmas.Bool.{and_parts, and_from}
 use Rattle.std.proofs.lemmas.List.{nil_from_length}
 use Rattle.bulk_base.proofs.MapView.{order, keys_ascend}
 use Rattle.outside.specs.Contents.{IsAscending}
 use Rattle.option_set.specs.Named.{Words, in_order}
 
-both : (a b : Bool) → a ≡ true → b ≡ true → (a && b) ≡ true
-both a b p q = grind arith
-
 module _ (p : List ℕ → Bool) where
   list_all-put : {X : Type 0} (word : List ℕ) (x : X) (es : List (List ℕ × X)) → p word ≡ true → list_all p (map (λ e. e.0) es) ≡ true → list_all p (map (λ e. e.0) (put order word x es)) ≡ true
-  list_all-put word x [] h k = both _ _ h refl
+  list_all-put word x [] h k = and_from _ _ h refl
   list_all-put word x (e ∷ es) h k =
       let m = and_parts (p e.0) (list_all p (map (λ y. y.0) es)) k in
       elim (order word e.0) as (λ o. list_all p (map (λ y. y.0) (by_order o ((word, x) ∷ e ∷ es) ((e.0, x) ∷ es) (e ∷ put order word x es))) ≡ true) [
-        | Less ↦ both _ _ h k
+        | Less ↦ and_from _ _ h k
         | Equal ↦ k
-        | Greater ↦ both _ _ m.0 (list_all-put word x es h m.1)
+        | Greater ↦ and_from _ _ m.0 (list_all-put word x es h m.1)
       ]
 
   put_all : (words : List (List ℕ)) (set : Words) → list_all p (finite.keys set) ≡ true → list_all p words ≡ true → list_all p (finite.keys (fold (λ set word. finite.insert set word tt) set words)) ≡ true

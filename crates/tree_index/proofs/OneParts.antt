@@ -6,6 +6,7 @@ use Rattle.std.proofs.lemmas.List.{length-append}
 use Rattle.std.proofs.lemmas.List.Folds.{list_all-append}
 use Rattle.std.proofs.lemmas.List.Splits.{slice_split_none}
 use Rattle.std.proofs.lemmas.Bool.Decides.{nat_tests}
+use Rattle.std.proofs.lemmas.Bool.{and_from}
 use Rattle.bulk_base.specs.Path.{is_slash, parts, is_part, is_path}
 use Rattle.bulk_base.specs.Names.{is_port_name, is_port_byte, is_alphanumeric}
 
@@ -51,9 +52,6 @@ begins_as : (front back : List ℕ) → 1 ≤ length front → begins_well (fron
 begins_as [] back l = absurd (omega arith)
 begins_as (b ∷ front) back l = refl
 
-both : (a b : Bool) → a ≡ true → b ≡ true → (a && b) ≡ true
-both a b p q = grind arith
-
 -- a category and a port with `_` between
 pub pair_is_path : (category port : List ℕ) → is_port_name category ≡ true → is_port_name port ≡ true → is_path (category ++ 95 ∷ port) ≡ true
 pair_is_path category port h k =
@@ -61,5 +59,5 @@ pair_is_path category port h k =
     let g = form_of port k in
     begun_is_path (category ++ 95 ∷ port)
     (begins_as category (95 ∷ port) f.low ∙ f.begins)
-    (list_all-append is_port_byte category (95 ∷ port) ∙ both (list_all is_port_byte category) (list_all is_port_byte port) f.bytes g.bytes)
+    (list_all-append is_port_byte category (95 ∷ port) ∙ and_from (list_all is_port_byte category) (list_all is_port_byte port) f.bytes g.bytes)
     (omega (arith, length-append category (95 ∷ port), f.high, g.high))

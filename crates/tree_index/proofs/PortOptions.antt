@@ -3,7 +3,7 @@ use Rattle.std.proofs.Common.{◌≡◌, ℕ, Bool, true, false, List, [], ◌�
 use Rattle.std.specs.Prelude.{map, not, ◌&&◌, cond, codes}
 use Rattle.std.specs.Option.{option_or}
 use Rattle.std.specs.List.{list_all}
-use Rattle.std.proofs.lemmas.Bool.{and_parts}
+use Rattle.std.proofs.lemmas.Bool.{and_parts, and_from}
 use Rattle.std.proofs.lemmas.List.Folds.{list_all-append}
 use Rattle.bulk_base.specs.Names as names
 use Rattle.bulk_base.specs.declared.file.Switch.{Switch}
@@ -21,9 +21,6 @@ use Rattle.option_set.specs.Chosen.{chosen, switches, unless}
 use Rattle.port_name.specs.Sets.{is_among}
 use Rattle.tree_index.proofs.InOrder.{list_all-in_order, in_order-ascends}
 
-both : (a b : Bool) → a ≡ true → b ≡ true → (a && b) ≡ true
-both a b p q = grind arith
-
 none_bad : (good : Bool) (word : List ℕ) (rest : Option (List ℕ)) → cond (not good) (Some word) rest ≡ None → (good ≡ true) × (rest ≡ None)
 none_bad true word rest h = (refl, h)
 none_bad false word rest h = cc
@@ -32,7 +29,7 @@ all_named : (words : List (List ℕ)) → no_name words ≡ None → list_all is
 all_named [] h = refl
 all_named (word ∷ words) h =
     let m = none_bad (is_option_name word) word (no_name words) h in
-    both (is_option_name word) (list_all is_option_name words) m.0 (all_named words m.1)
+    and_from (is_option_name word) (list_all is_option_name words) m.0 (all_named words m.1)
 
 -- what all defining words pass, all options pass
 module _ (p : List ℕ → Bool) where
@@ -40,7 +37,7 @@ module _ (p : List ℕ → Bool) where
   halves a b h = and_parts (list_all p a) (list_all p b) (sym (list_all-append p a b) ∙ h)
 
   joined : (a b : List (List ℕ)) → list_all p a ≡ true → list_all p b ≡ true → list_all p (a ++ b) ≡ true
-  joined a b h k = list_all-append p a b ∙ both (list_all p a) (list_all p b) h k
+  joined a b h k = list_all-append p a b ∙ and_from (list_all p a) (list_all p b) h k
 
   -- words of which some name groups
   without_names : (words options names members : List (List ℕ)) → (list_all p words ≡ true → list_all p options ≡ true)

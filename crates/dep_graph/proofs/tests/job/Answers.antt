@@ -1,5 +1,5 @@
 use Rattle.std.proofs.Common.{codes, refl}
-use Rattle.bulk_base.proofs.Paths.{is_text-plain}
+use Rattle.bulk_base.proofs.TextTests.{is_text-plain}
 use Rattle.dep_graph.proofs.ThreePorts.{is_job}
 use Rattle.dep_graph.proofs.tests.job.Goals as goal
 

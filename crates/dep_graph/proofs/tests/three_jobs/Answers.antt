@@ -1,6 +1,6 @@
 use Rattle.std.proofs.Common.{codes, refl, sym, subst}
 use Rattle.bulk_base.specs.Names.{IsPackageName}
-use Rattle.bulk_base.proofs.Paths.{is_text-plain}
+use Rattle.bulk_base.proofs.TextTests.{is_text-plain}
 use Rattle.dep_graph.proofs.ThreePorts.{name_a, name_b, name_c}
 use Rattle.dep_graph.proofs.tests.three_jobs.Goals as goal
 

@@ -2,7 +2,7 @@ use Rattle.std.proofs.Common.{◌∙◌, rules, ℕ, List, Bool}
 use Rattle.std.specs.Prelude.{bytes_eq}
 use Rattle.std.proofs.lemmas.Iterator.{YieldsList-from_slice}
 use Rattle.std.proofs.lemmas.Iterator.Search.{position_from_yields_List}
-use Rattle.moved_list.proofs.Places.{place_or_length}
+use Rattle.bulk_base.proofs.Places.{place_or_length}
 use Rattle.moved_list.proofs.chain.first_place.Goals as goal
 
 pub returns-clause-place : goal.returns-clause-place

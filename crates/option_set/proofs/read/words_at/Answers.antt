@@ -1,4 +1,4 @@
-use Rattle.option_set.proofs.Texts.{is_text-from_IsText}
+use Rattle.bulk_base.proofs.TextTests.{is_text-from_IsText}
 use Rattle.option_set.proofs.read.words_at.Goals as goal
 
 pub of-requires : goal.of-requires

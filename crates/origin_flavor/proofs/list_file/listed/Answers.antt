@@ -1,7 +1,7 @@
 use Rattle.std.proofs.Common.{◌≡◌, ◌∙◌, ap, true, false, length, get_or, arith, rules}
 use Rattle.std.specs.Str.Lines.{lines}
 use Rattle.bulk_base.specs.Text.{is_text}
-use Rattle.moved_list.proofs.Sizes.{length-lines, spans_are}
+use Rattle.bulk_base.proofs.Sizes.{length-lines, spans_are, line_is}
 use Rattle.origin_flavor.proofs.Listed.{listed_line, listed_fault, listed_all}
 use Rattle.origin_flavor.proofs.list_file.listed.Goals as goal
 
@@ -14,16 +14,16 @@ overflow_add-result c = record { fits = omega (arith, c.requires, length-lines c
 pub returns-then-not-is_text-clause-refused : goal.returns-then-not-is_text-clause-refused
 returns-then-not-is_text-clause-refused c = λ some.
     let size : length c.in_ok-spans.spans ≡ length (lines c.args.bytes.now) = spans_are c.args.bytes.now c.in_ok-spans.spans c.in_ok-spans.ensures.text in
-    let bad : is_text c.line_at-line.result.now ≡ false = search rules in
-    listed_fault (lines c.args.bytes.now) c.loop-at.at c.line_at-line.result.now c.loop-at.found (omega arith)
-    (c.line_at-line.ensures ∙ ap (λ l. get_or l c.loop-at.at c.line_at-line.result.now) c.in_ok-spans.ensures.text) bad c.loop-at.invariant
+    let bad : is_text c.of-line.result.now ≡ false = search rules in
+    listed_fault (lines c.args.bytes.now) c.loop-at.at c.of-line.result.now c.loop-at.found (omega arith)
+    (line_is c.args.bytes.now c.in_ok-spans.spans c.as_slice.result.now c.loop-at.at c.of-line.result.now c.in_ok-spans.ensures.text c.as_slice.ensures (omega arith) c.of-line.ensures) bad c.loop-at.invariant
 
 pub loop-at-preserved : goal.loop-at-preserved
 loop-at-preserved c =
     let size : length c.in_ok-spans.spans ≡ length (lines c.args.bytes.now) = spans_are c.args.bytes.now c.in_ok-spans.spans c.in_ok-spans.ensures.text in
-    let good : is_text c.line_at-line.result.now ≡ true = search rules in
-    listed_line (lines c.args.bytes.now) c.loop-at.at c.line_at-line.result.now c.loop-at.found c.take_line.new.found (omega arith)
-    (c.line_at-line.ensures ∙ ap (λ l. get_or l c.loop-at.at c.line_at-line.result.now) c.in_ok-spans.ensures.text) good c.in_ok-take_line.ensures c.loop-at.invariant
+    let good : is_text c.of-line.result.now ≡ true = search rules in
+    listed_line (lines c.args.bytes.now) c.loop-at.at c.of-line.result.now c.loop-at.found c.take_line.new.found (omega arith)
+    (line_is c.args.bytes.now c.in_ok-spans.spans c.as_slice.result.now c.loop-at.at c.of-line.result.now c.in_ok-spans.ensures.text c.as_slice.ensures (omega arith) c.of-line.ensures) good c.in_ok-take_line.ensures c.loop-at.invariant
 
 pub returns-clause-ok : goal.returns-clause-ok
 returns-clause-ok c =

@@ -6,4 +6,4 @@ use Rattle.port_name.proofs.word.origin.Goals as goal
 pub parted-requires-clause-within : goal.parted-requires-clause-within
 parted-requires-clause-within c =
     let form : is_origin c.bytes-bytes.result.now ≡ true = search rules in
-    omega (arith, slash_within c.bytes-bytes.result.now form, c.slash_place.ensures.place)
+    omega (arith, slash_within c.bytes-bytes.result.now form, c.place_or_end.ensures.place)

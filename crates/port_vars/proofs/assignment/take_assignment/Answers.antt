@@ -1,10 +1,11 @@
 use Rattle.std.proofs.Common.{◌≡◌, ◌∙◌, ◌+◌, true, false, Ok, Err, ap, sym, subst, arith, take, drop}
 use Rattle.std.specs.Option.{ok_or, option_map}
 use Rattle.std.specs.FinMap as map
+use Rattle.bulk_base.proofs.TextTests.{is_text-from_IsText}
 use Rattle.port_vars.specs.declared.fault.LineKind.TheVariants.{Reference as Faulty}
 use Rattle.port_vars.specs.Answers.{Answers}
 use Rattle.std.proofs.lemmas.Result.{err_from_is_err_and}
-use Rattle.port_vars.specs.Trim.{trim}
+use Rattle.bulk_base.specs.Trim.{trim}
 use Rattle.port_vars.specs.Reference.{is_name, expanded}
 use Rattle.port_vars.specs.Assignment.{mapped}
 use Rattle.port_vars.specs.Variables.{after}
@@ -22,10 +23,10 @@ returns-then-not-is_name c =
     let bad : c.is_name.result ≡ false = grind arith in
     ap (mapped (after c.args.vars.now)) (assigned_bad_name c.args.limit (map.get c.args.vars.now) c.args.statement.now c.in-Some.equals (sym c.in-Some.ensures.value) (ap is_name (sym c.name_of-name.ensures) ∙ sym c.is_name.ensures ∙ bad))
 
-pub text_of-requires : goal.text_of-requires
-text_of-requires c =
+pub of-requires : goal.of-requires
+of-requires c =
     let rest = c.in-Some.equals + 1 in
-    rw (c.trim.ensures, rest_is c.args.statement.now rest) (IsText-trim (drop rest c.args.statement.now) (IsText-after c.args.statement.now c.in-Some.equals c.requires c.in-Some.ensures.place.0 (omega (arith, c.in-Some.ensures.place.1))))
+    is_text-from_IsText _ (rw (c.trim.ensures, rest_is c.args.statement.now rest) (IsText-trim (drop rest c.args.statement.now) (IsText-after c.args.statement.now c.in-Some.equals c.requires c.in-Some.ensures.place.0 (omega (arith, c.in-Some.ensures.place.1)))))
 
 pub returns-in_err-text : goal.returns-in_err-text
 returns-in_err-text c =

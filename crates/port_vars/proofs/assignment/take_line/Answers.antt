@@ -2,7 +2,7 @@ use Rattle.std.proofs.Common.{◌≡◌, ◌∙◌, ap, sym, subst, length}
 use Rattle.std.specs.Prelude.{◌==◌}
 use Rattle.std.specs.FinMap as map
 use Rattle.std.proofs.lemmas.Result.{err_from_is_err_and}
-use Rattle.port_vars.specs.Trim.{trim}
+use Rattle.bulk_base.specs.Trim.{trim}
 use Rattle.port_vars.specs.Assignment.{statement, assigned, mapped}
 use Rattle.port_vars.specs.Variables.{after}
 use Rattle.port_vars.specs.Answers.{Leaves}

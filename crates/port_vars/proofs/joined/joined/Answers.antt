@@ -1,7 +1,8 @@
-use Rattle.std.proofs.Common.{◌≡◌, length, get_or, arith, ap, ◌∙◌}
+use Rattle.std.proofs.Common.{◌≡◌, length, arith}
 use Rattle.std.specs.Str.Lines.{lines}
 use Rattle.port_vars.specs.Joined.{joined}
-use Rattle.port_vars.proofs.JoinedSoFar.{length-lines, spans_are, at_line}
+use Rattle.bulk_base.proofs.Sizes.{length-lines, spans_are, line_is}
+use Rattle.port_vars.proofs.JoinedSoFar.{at_line}
 use Rattle.port_vars.proofs.joined.joined.Goals as goal
 
 pub overflow_cast-at : goal.overflow_cast-at
@@ -13,6 +14,6 @@ overflow_add-at c = omega (arith, length-lines c.args.bytes.now, spans_are c.arg
 pub loop-at-preserved : goal.loop-at-preserved
 loop-at-preserved c =
     let size : length c.in_ok-spans.spans ≡ length (lines c.args.bytes.now) = spans_are c.args.bytes.now c.in_ok-spans.spans c.in_ok-spans.ensures.text in
-    at_line c.loop-at.found c.take_line.new.found c.loop-at.begun c.in_ok-begun.begun c.loop-at.at (lines c.args.bytes.now) c.line_at-line.result.now (joined c.args.bytes.now)
-    (omega arith) (c.line_at-line.ensures ∙ ap (λ l. get_or l c.loop-at.at c.line_at-line.result.now) c.in_ok-spans.ensures.text)
+    at_line c.loop-at.found c.take_line.new.found c.loop-at.begun c.in_ok-begun.begun c.loop-at.at (lines c.args.bytes.now) c.of-line.result.now (joined c.args.bytes.now)
+    (omega arith) (line_is c.args.bytes.now c.in_ok-spans.spans c.as_slice.result.now c.loop-at.at c.of-line.result.now c.in_ok-spans.ensures.text c.as_slice.ensures (omega arith) c.of-line.ensures)
     c.in_ok-begun.ensures c.loop-at.invariant

@@ -1,6 +1,6 @@
 use Rattle.std.proofs.Common.{arith}
 use Rattle.std.proofs.lemmas.Grind.{common_steps}
-use Rattle.poudriere_cli.proofs.Listings.{none_above, one_above}
+use Rattle.bulk_base.proofs.Above.{none_above, one_above}
 use Rattle.poudriere_cli.proofs.listing.has_free_folders.Goals as goal
 
 pub returns-then-has_path : goal.returns-then-has_path

@@ -1,10 +1,11 @@
 -- The first element that passes.
 use Rattle.std.proofs.Common.{◌≡◌, ℕ, ◌+◌, ◌<◌, ◌≤◌, Bool, true, false, List, [], ◌∷◌, ◌++◌, length, get_or, take, drop, arith, ◌∙◌, ap, ltb, refl, sym}
-use Rattle.std.specs.Prelude.{cond, Option, Some, None, unwrap_or, not, ◌&&◌}
+use Rattle.std.specs.Prelude.{cond, Option, Some, None, unwrap_or, not}
 use Rattle.std.specs.List.{position_or_len, position, list_all}
 use Rattle.std.proofs.lemmas.List.Sums.{prefix_len-le-length}
 use Rattle.std.proofs.lemmas.List.{length-take, take-append-drop, drop_more}
 use Rattle.std.proofs.lemmas.Bool.Decides.{nat_tests}
+use Rattle.std.proofs.lemmas.Bool.{and_parts}
 
 chosen : (b : Bool) (n m : ℕ) → n ≤ m → ltb n m ≡ b → unwrap_or (cond b (Some n) None) m ≡ n
 chosen true n m l e = refl
@@ -20,19 +21,16 @@ place_or_length p r xs e =
 abbrev pub none : {X : Type 0} → (X → Bool) → List X → Bool
 none p xs = list_all (λ x. not (p x)) xs
 
-both : (a b : Bool) → (a && b) ≡ true → (a ≡ true) × (b ≡ true)
-both a b t = grind arith
-
-place_none : {X : Type 0} (p : X → Bool) (xs : List X) → none p xs ≡ true → position_or_len p xs ≡ length xs
+pub place_none : {X : Type 0} (p : X → Bool) (xs : List X) → none p xs ≡ true → position_or_len p xs ≡ length xs
 place_none p [] h = refl
 place_none p (x ∷ xs) h =
-    let parts = both (not (p x)) (none p xs) h in
+    let parts = and_parts (not (p x)) (none p xs) h in
     ap (λ b. cond b (1 + position_or_len p xs) 0) parts.0 ∙ ap (λ n. 1 + n) (place_none p xs parts.1) ∙ omega arith
 
-place_behind : {X : Type 0} (p : X → Bool) (xs : List X) (y : X) (ys : List X) → none p xs ≡ true → p y ≡ true → position_or_len p (xs ++ y ∷ ys) ≡ length xs
+pub place_behind : {X : Type 0} (p : X → Bool) (xs : List X) (y : X) (ys : List X) → none p xs ≡ true → p y ≡ true → position_or_len p (xs ++ y ∷ ys) ≡ length xs
 place_behind p [] y ys h hit = ap (λ b. cond (not b) (1 + position_or_len p ys) 0) hit
 place_behind p (x ∷ xs) y ys h hit =
-    let parts = both (not (p x)) (none p xs) h in
+    let parts = and_parts (not (p x)) (none p xs) h in
     ap (λ b. cond b (1 + position_or_len p (xs ++ y ∷ ys)) 0) parts.0 ∙ ap (λ n. 1 + n) (place_behind p xs y ys parts.1 hit) ∙ omega arith
 
 by_place : {X : Type 0} (p : X → Bool) (xs : List X) (at : ℕ) → position_or_len p xs ≡ at → at < length xs → position p xs ≡ Some at

@@ -1,6 +1,0 @@
-use Rattle.std.proofs.Common.{◌≡◌, drop}
-use Rattle.port_vars.specs.Trim.{trim_start}
-use Rattle.origin_flavor.proofs.list_file.trim_start.Given as goal
-
-abbrev pub invariant-loop-at : goal.invariant-loop-at
-invariant-loop-at l = trim_start (drop l.at l.text) ≡ trim_start l.text
