@@ -1,12 +1,12 @@
 -- The edges of a plan go to its nodes.
-use Rattle.std.proofs.Common.{◌≡◌, ℕ, ◌+◌, ◌<◌, Bool, true, false, List, [], length, get_or, ap, sym, subst, ◌∙◌, arith, nat_lt}
+use Rattle.std.proofs.Common.{◌≡◌, ℕ, ◌+◌, ◌<◌, Bool, true, List, [], length, get_or, ap, sym, subst, ◌∙◌, arith, nat_lt}
 use Rattle.std.specs.List.{list_all, range_with_len, All}
 use Rattle.std.proofs.lemmas.Bool.{ltb-true, true_from_ne_false, true≢false}
 use Rattle.std.proofs.lemmas.List.{get_or_read}
 use Rattle.std.proofs.lemmas.List.Folds.{list_all_at, list_all-map}
 use Rattle.std.proofs.lemmas.List.FromFn.{length-range_with_len, get_or-range_with_len}
 use Rattle.bulk_model.specs.declared.plan.Edge.{Edge}
-use Rattle.bulk_model.specs.PlanView.{PlanView, nodes, depends, edges_from}
+use Rattle.bulk_model.specs.PlanView.{PlanView, depends, edges_from}
 use Rattle.bulk_model.specs.PlanFacts.{IsPlan}
 
 -- what a test says of all, it says of each

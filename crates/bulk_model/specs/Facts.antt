@@ -1,5 +1,5 @@
 -- What holds of every job and every package.
-use Rattle.std.specs.Prelude.{◌≡◌, ℕ, Bool, true, ◌&&◌, ◌||◌, ◌==◌, nat_lt, nat_le, ◌<◌, ◌≤◌, List, [], ◌∷◌, length, map, Option, IsTrue, IfSome, bytes_eq}
+use Rattle.std.specs.Prelude.{ℕ, Bool, true, ◌&&◌, nat_le, List, [], ◌∷◌, length, map, IsTrue, IfSome}
 use Rattle.std.specs.List.{list_all, AllByRecursion}
 use Rattle.bulk_base.specs.Names.{IsPackageName, IsOrigin, IsNode, is_flavor, is_option_name}
 use Rattle.bulk_base.specs.declared.file.FileItem.{FileItem}

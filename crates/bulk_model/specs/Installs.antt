@@ -1,11 +1,10 @@
 -- What is installed for a build: the direct dependencies, closed under LIB and RUN dependencies
 -- (Porter's Handbook, "Dependencies": what is linked with and what runs needs its own).
-use Rattle.std.specs.Prelude.{◌≡◌, ℕ, zero, suc, Bool, true, false, ◌||◌, ◌&&◌, ◌==◌, List, length, map, filter, bytes_eq}
-use Rattle.std.specs.List.{list_any, list_all}
+use Rattle.std.specs.Prelude.{ℕ, zero, suc, Bool, true, false, ◌||◌, ◌&&◌, ◌==◌, List, length, map, filter, bytes_eq}
+use Rattle.std.specs.List.{list_any}
 use Rattle.bulk_model.specs.declared.depend.Depend.{Depend}
 use Rattle.bulk_model.specs.declared.depend.DepKind.{DepKind}
 use Rattle.bulk_model.specs.declared.depend.DepKind.TheVariants.{Pkg, Fetch, Extract, Patch, Build, Lib, Run}
-use Rattle.bulk_model.specs.declared.plan.Edge.{Edge}
 use Rattle.bulk_model.specs.PlanView.{PlanView, nodes, edges_from, depends}
 use Rattle.bulk_model.specs.Views.{PackageView}
 use Rattle.bulk_base.specs.Names.{node_of}

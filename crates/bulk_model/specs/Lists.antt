@@ -1,7 +1,6 @@
 -- The text that a run prints (docs/FORMATS.md).
 use Rattle.std.specs.Prelude.{ℕ, Bool, true, false, List, [], ◌++◌, length, map, codes, slice_index_or, Option, Some, None, unwrap_or, if◌then◌else◌}
 use Rattle.std.specs.List.{flat_map, filter_map, list_any}
-use Rattle.std.specs.Option.{option_map}
 use Rattle.std.specs.Fmt.{decimal}
 use Rattle.bulk_base.specs.Names.{node_of}
 use Rattle.bulk_model.specs.declared.outcome.Phase.{Phase}

@@ -1,8 +1,7 @@
 -- A plan as contracts see it, and the graph of its dependencies.
-use Rattle.std.specs.Prelude.{ℕ, zero, suc, Bool, false, ◌≤◌, List, [], length, map, slice_index_or, Option, None, is_some}
+use Rattle.std.specs.Prelude.{ℕ, zero, suc, Bool, false, List, [], length, map, slice_index_or, Option, None, is_some}
 use Rattle.std.specs.List.{list_all, range_with_len}
 use Rattle.bulk_base.specs.declared.file.FileItem.{FileItem}
-use Rattle.bulk_model.specs.declared.depend.DepKind.{DepKind}
 use Rattle.bulk_model.specs.declared.plan.Edge.{Edge}
 use Rattle.bulk_model.specs.Views.{JobView}
 

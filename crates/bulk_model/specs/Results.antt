@@ -1,9 +1,8 @@
 -- What comes of each node of a plan, by recursion over the dependencies (poudriere-bulk(8): what depends on a port
 -- that failed or is ignored is skipped).
-use Rattle.std.specs.Prelude.{◌≡◌, ℕ, zero, suc, Bool, true, false, ◌&&◌, List, [], length, map, slice_index_or, Option, Some, None, is_some, unwrap_or, if◌then◌else◌}
-use Rattle.std.specs.List.{list_any, list_all, filter_map}
+use Rattle.std.specs.Prelude.{ℕ, zero, suc, Bool, true, false, List, [], length, map, slice_index_or, Option, Some, None, is_some, unwrap_or, if◌then◌else◌}
+use Rattle.std.specs.List.{list_all, filter_map}
 use Rattle.std.specs.Option.{option_map_or}
-use Rattle.bulk_base.specs.declared.file.FileItem.{FileItem}
 use Rattle.bulk_model.specs.declared.outcome.Outcome.{Outcome}
 use Rattle.bulk_model.specs.declared.outcome.Outcome.TheVariants.{Built as MadePackage, Failed as FailedBuild}
 use Rattle.bulk_model.specs.declared.outcome.Phase.TheVariants.{Depends as DependsPhase}

@@ -1,5 +1,5 @@
 -- When a store's packages are those that their recipes give: keys, agreement and soundness.
-use Rattle.std.specs.Prelude.{◌≡◌, ℕ, zero, suc, List, [], ◌++◌, length, filter, codes, Some, Contains, All}
+use Rattle.std.specs.Prelude.{◌≡◌, ℕ, zero, suc, List, ◌++◌, length, filter, codes, Some, Contains, All}
 use Rattle.std.specs.List.{list_all, list_any}
 use Rattle.std.specs.FinMap.{get}
 use Rattle.bulk_base.specs.Names.{node_of}

@@ -1,6 +1,5 @@
 -- Chains of dependents, node by node from the end of an order.
 use Rattle.std.proofs.Common.{◌≡◌, ◌≢◌, ℕ, suc, ◌+◌, ◌-◌, ◌<◌, ◌≤◌, max, Bool, true, false, List, [], ◌∷◌, ◌++◌, length, get_or, set, take, replicate, refl, ap, sym, subst, ◌∙◌, arith, cond, nat_eq, inl, inr, ◌⊎◌}
-use Rattle.std.specs.Prelude.{◌||◌}
 use Rattle.std.specs.List.{All, IsDistinct}
 use Rattle.std.proofs.lemmas.Bool.{eq-eqb, ne_eqb, cases_lt, cases_eq, both_ways, and_parts, and_from, false_from_ne_true}
 use Rattle.std.proofs.lemmas.List.{take_more, map_push, length-set, get_or-set_same, get_or-set_other, take-take, get_or_past, get_or-replicate, length-replicate}

@@ -8,7 +8,7 @@ ghost use Rattle.option_set.specs.Implied as implied;
 use crate::asking::asked;
 use crate::layers::Layers;
 use crate::read::{words_at, words_behind};
-use bulk_base::{NoMemory, Sequence, Switch, Text, TextMap, Texts};
+use bulk_base::{NoMemory, Sequence, Switch, Text, TextMap, Texts, add_copies};
 use port_vars::Vars;
 use std::alloc::Global;
 

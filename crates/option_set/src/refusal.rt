@@ -12,7 +12,7 @@ use crate::listed::Listed;
 use crate::listing::defining_words;
 use crate::name::is_option_name;
 use crate::read::{words_at, words_behind};
-use bulk_base::{NoMemory, Text, Texts};
+use bulk_base::{NoMemory, Text, Texts, add_copies};
 use port_vars::Vars;
 use std::alloc::Global;
 

@@ -1,6 +1,6 @@
 -- Names in form pass the tests, since their parts lack the marks between them.
 use Rattle.std.proofs.Common.{◌≡◌, ℕ, ◌+◌, ◌<◌, ◌≤◌, Bool, true, false, List, [], ◌∷◌, ◌++◌, length, take, drop, arith, refl, ap, sym, ◌∙◌, append_assoc, append-nil, eq-eqb}
-use Rattle.std.specs.Prelude.{◌&&◌, ◌||◌, ◌==◌, not, nat_le, Option, Some, None, IsTrue, IfSome}
+use Rattle.std.specs.Prelude.{◌||◌, ◌==◌, not, nat_le, Option, Some, None, IsTrue, IfSome}
 use Rattle.std.specs.List.{list_all, position_or_len}
 use Rattle.std.proofs.lemmas.Bool.Decides.{nat_tests}
 use Rattle.std.proofs.lemmas.List.{length-append, drop_at, get_or_append_left}

@@ -1,11 +1,8 @@
 // A room to build in, on a disk.
-ghost use Rattle.std.specs.Prelude.{◌≤◌, IfOk, IfSome, vec_len};
-ghost use Rattle.outside.specs.Contents.{IsListing};
 
 use crate::fault::{noted, outer};
-use crate::listing::listing;
-use crate::place::{first_bytes, pass_no_name, place};
-use crate::walk::files_below;
+use crate::folder_files::{first_bytes_of, listed};
+use crate::place::{pass_no_name, place};
 use bulk_base::{NoMemory, Path, Paths, Text};
 use outside::{Outer, Room, Untold};
 use std::alloc::Global;
@@ -78,19 +75,6 @@ impl<R: Files + Processes + AllocGlobal + Clone + Drop> DirRoom<R> {
             None => Ok(ENDED_BY_SIGNAL),
         }
     }
-
-    fn listed(&self, folder: &Path) -> Result<Paths, Outer>
-        ensures { IfOk result (IsListing folder.now) }
-    {
-        listing(files_below(&self.rt, self.folder.as_str(), folder)?, folder)
-    }
-
-    fn read(&self, alloc: Global, file: &Path, most: u64) -> Result<Option<Vec<u8>>, Outer>
-        ensures { IfOk result (λ found. IfSome found (λ bytes. vec_len bytes ≤ most)) }
-    {
-        let place = place(alloc, self.folder.as_str(), file.text().as_str())?;
-        first_bytes(&self.rt, place.as_str(), most)
-    }
 }
 
 impl<R: Files + Processes + AllocGlobal + Clone + Drop> Room for DirRoom<R> {
@@ -121,12 +105,12 @@ impl<R: Files + Processes + AllocGlobal + Clone + Drop> Room for DirRoom<R> {
     }
 
     fn names(&mut self, _alloc: Global, below: &Path) -> Result<Paths, Outer> {
-        let listed = self.listed(below);
+        let listed = listed(&self.rt, self.folder.as_str(), below);
         noted(&mut self.faults, listed)
     }
 
     fn take(&mut self, alloc: Global, file: &Path, most: u64) -> Result<Option<Vec<u8>>, Outer> {
-        let read = self.read(alloc, file, most);
+        let read = first_bytes_of(&self.rt, alloc, self.folder.as_str(), file, most);
         noted(&mut self.faults, read)
     }
 }

@@ -1,11 +1,6 @@
 // A ports tree on a disk.
-ghost use Rattle.std.specs.Prelude.{◌≤◌, IfOk, IfSome, vec_len};
-ghost use Rattle.outside.specs.Contents.{IsListing};
-
 use crate::fault::noted;
-use crate::listing::listing;
-use crate::place::{first_bytes, place};
-use crate::walk::files_below;
+use crate::folder_files::{first_bytes_of, listed};
 use bulk_base::{Path, Paths};
 use outside::{Outer, Tree};
 use std::alloc::Global;
@@ -28,19 +23,6 @@ impl<R: Files + AllocGlobal + Clone + Drop> DirTree<R> {
             faults: 0,
         }
     }
-
-    fn listed(&self, folder: &Path) -> Result<Paths, Outer>
-        ensures { IfOk result (IsListing folder.now) }
-    {
-        listing(files_below(&self.rt, self.folder.as_str(), folder)?, folder)
-    }
-
-    fn read(&self, alloc: Global, file: &Path, most: u64) -> Result<Option<Vec<u8>>, Outer>
-        ensures { IfOk result (λ found. IfSome found (λ bytes. vec_len bytes ≤ most)) }
-    {
-        let place = place(alloc, self.folder.as_str(), file.text().as_str())?;
-        first_bytes(&self.rt, place.as_str(), most)
-    }
 }
 
 impl<R: Files + AllocGlobal + Clone + Drop> Tree for DirTree<R> {
@@ -54,12 +36,12 @@ impl<R: Files + AllocGlobal + Clone + Drop> Tree for DirTree<R> {
     ghost faults = { λ s. s.faults };
 
     fn names(&mut self, _alloc: Global, folder: &Path) -> Result<Paths, Outer> {
-        let listed = self.listed(folder);
+        let listed = listed(&self.rt, self.folder.as_str(), folder);
         noted(&mut self.faults, listed)
     }
 
     fn bytes(&mut self, alloc: Global, file: &Path, most: u64) -> Result<Option<Vec<u8>>, Outer> {
-        let read = self.read(alloc, file, most);
+        let read = first_bytes_of(&self.rt, alloc, self.folder.as_str(), file, most);
         noted(&mut self.faults, read)
     }
 }

@@ -6,6 +6,7 @@ mod dir_room;
 mod dir_store;
 mod dir_tree;
 mod fault;
+mod folder_files;
 mod listing;
 mod out_sink;
 mod place;
