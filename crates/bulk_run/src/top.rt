@@ -50,7 +50,29 @@ fn run<T: Tree, S: Store, R: Room>(
     }
 }
 
-/// Runs a command with one builder.
+/// Runs a command with one builder (poudriere-bulk(8); docs/FORMATS.md, "The command").
+///
+/// `words` are those behind the program's name. All that they ask for is read from the tree first. Then the wanted nodes are
+/// built in `room`, one after another in the byte order of their names, a failed one not keeping the others from being
+/// built; then the packages of those that were built are put into the store, in that order; then the notices and the status
+/// lists are printed in one write. Answers how the run ended, with the exit status: 0, or 1 where a node failed, where the
+/// answer is Done; 2 for a refusal, 3 for a fault, 4 for want of memory.
+///
+/// The refusals, of which the first in this order is answered, with the store as it was and no build begun:
+/// - Usage: the words are not `bulk` and at least one more;
+/// - BadConf: etc/make.conf is at fault;
+/// - NotYet: etc/poudriere.conf or a file below base/ is there;
+/// - BadPort, Limit, DupName, or NotYet for a MOVED that is too long: the tree is at fault (`tree_index::index`);
+/// - NoOrigin, NoFlavor, Gone, MovedLoop: a word is refused (`origin_flavor::wanted`);
+/// - NotYet: a wanted node has dependencies or is ignored, then a file of its files is too long, then a name of the store
+///   ends in `.pkg`.
+///
+/// TreeFault, StoreFault, RoomFault and SinkFault come where that object failed, in the place of what the failed call was
+/// made for; NoMemory may come anywhere. Any answer but Done and NoMemory is printed as one line. An answer that comes
+/// behind the builds leaves the packages of some first nodes in the store.
+///
+/// Costs those of `index` and `wanted`, a listing of files and a build for each wanted node, and the memory of all their
+/// packages.
 pub fn bulk_alone<T: Tree, S: Store, R: Room, K: Sink>(
     alloc: Global,
     words: &[Text],
@@ -106,9 +128,10 @@ fn without_rooms<K: Sink>(alloc: Global, words: &[Text], out: &mut K) -> Closed
     }
 }
 
-/// Runs a command over a tree, a store and rooms, and prints to a sink.
+/// Runs a command over a tree, a store and rooms, and prints to a sink: the program's whole work.
 ///
-/// The store and the rooms come back, the rooms in their order.
+/// As `bulk_alone` in the first room; the others are not touched. Without a room the answer is Usage where that answers
+/// Usage, and else Builders. The store and the rooms come back, the rooms in their order, whatever the answer is.
 pub fn poudriere<
     W: Threads + Wait + Sync,
     T: Tree,

@@ -1,10 +1,13 @@
 // What a run stores, which builds it begins, and each object failing once.
 use super::trees::files_of;
 use super::{World, run, words_of, world_of};
-use bulk_base::Text;
-use outside::{CallKind, Store};
+use crate::{Finished, poudriere};
+use bulk_base::{Sequence, Text};
+use outside::{CallKind, MemRoom, MemSink, MemStore, MemTree, OpenGate, Store};
 use std::alloc::Global;
+use std::sync::Wait;
 use std::test::Fail;
+use std::thread::Threads;
 
 /// Two ports, of which a/x stages its one file.
 const TREE: &[u8] =
@@ -53,6 +56,48 @@ fn ports_are_built_each_once_and_the_good_ones_stored(rt: HostRuntime) -> Result
     assert_eq!(rt; world.room.begun().len(), 2);
     assert_eq!(rt; world.store.names(alloc)?.len(), 1);
     assert_eq!(rt; record(alloc, &mut world)?.len(), 183);
+    Ok(())
+}
+
+/// The status of a run without rooms, and what it prints.
+fn roomless<W: Threads + Wait + Sync>(
+    rt: &W,
+    alloc: Global,
+    command: &[u8],
+) -> Result<(u8, Vec<u8>), Fail> {
+    let words = words_of(alloc, command)?;
+    let mut tree = MemTree::new(alloc, files_of(alloc, TREE)?, Sequence::new(alloc))?;
+    let store = MemStore::new(alloc, Sequence::new(alloc), Sequence::new(alloc))?;
+    let mut out = MemSink::new(alloc, Sequence::new(alloc))?;
+    let rooms = Vec::<MemRoom>::new(alloc);
+    let Finished {
+        status,
+        answer,
+        store,
+        rooms,
+    } = poudriere(
+        rt,
+        alloc,
+        words.as_slice(),
+        &mut tree,
+        store,
+        rooms,
+        &OpenGate,
+        &mut out,
+    );
+    drop((answer, store, rooms));
+    Ok((status, Vec::from_slice(alloc, out.written())?))
+}
+
+#[test]
+fn no_rooms_are_too_few(rt: HostRuntime) -> Result<(), Fail> {
+    let alloc = rt.alloc();
+    let (status, text) = roomless(&rt, alloc, b"bulk a/x")?;
+    assert_eq!(rt; status, 2);
+    assert!(rt; text.as_slice() == b"poudriere: 1 builders asked, 0 rooms\n".as_slice());
+    let (status, text) = roomless(&rt, alloc, b"bulk")?;
+    assert_eq!(rt; status, 2);
+    assert!(rt; text.starts_with(b"usage: "));
     Ok(())
 }
 
