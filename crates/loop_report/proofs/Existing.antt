@@ -1,19 +1,18 @@
 -- An order of all that no loop holds up: the nodes in the rounds in which they are taken away.
 use Rattle.std.proofs.Common.{◌≡◌, ℕ, zero, suc, ◌<◌, ◌≤◌, Bool, true, false, List, [], ◌∷◌, ◌++◌, length, get_or, take, refl, ap, sym, subst, ◌∙◌, arith, nat_eq, inl, inr, ◌⊎◌, append_assoc}
 use Rattle.std.specs.Prelude.{◌==◌, ◌||◌, ◌&&◌, not, filter}
-use Rattle.std.specs.List.{range_with_len, All, AllPairs, IsDistinct}
+use Rattle.std.specs.List.{All, IsDistinct}
 use Rattle.std.specs.Cmp.{nat_eq_equiv}
 use Rattle.std.proofs.lemmas.Bool.{eq-eqb, ne_eqb, both_ways, and_parts, cases_lt, or_left}
 use Rattle.std.proofs.lemmas.List.{length_push, get_or_append_left, get_or_push, take-append-le, take_at, append-nil}
 use Rattle.std.proofs.lemmas.List.Elements.{All-push, All-nil, All-head, All-tail, All-from_recursion}
-use Rattle.std.proofs.lemmas.List.Kept.{IsStrictlyIncreasing-filter, AllPairs-from_increasing}
 use Rattle.std.proofs.lemmas.List.Sums.{AllPass-from_list_all}
-use Rattle.std.proofs.lemmas.Map.Keys.{IsDistinct-push, IsDistinct-from_apart}
+use Rattle.std.proofs.lemmas.Map.Keys.{IsDistinct-push}
 use Rattle.bulk_model.specs.declared.plan.Edge.{Edge}
 use Rattle.dep_graph.specs.Graphs.{has, depends_at, nodes_of, IsWithin}
 use Rattle.dep_graph.specs.Order.{IsInOrder, is_away, is_free, IsLooplessPart}
 use Rattle.dep_graph.proofs.Members.{has-append, has-filter, has-range, below-range, all_has, all_from_has}
-use Rattle.dep_graph.proofs.Reaching.{increasing_range, target_below}
+use Rattle.dep_graph.proofs.Reaching.{target_below}
 use Rattle.dep_graph.proofs.Waiting.{or_none, or_one, has_pushed}
 use Rattle.dep_graph.proofs.Ordered.{distinct_filter, away_upto, ordered_is_free}
 use Rattle.loop_report.proofs.Least.{has_head, has_tail, member}

@@ -1,4 +1,4 @@
-use Rattle.std.proofs.Common.{◌≡◌, ◌∙◌, ap, true, false, length, get_or, arith, rules}
+use Rattle.std.proofs.Common.{◌≡◌, true, false, length, arith, rules}
 use Rattle.std.specs.Str.Lines.{lines}
 use Rattle.bulk_base.specs.Text.{is_text}
 use Rattle.bulk_base.proofs.Sizes.{length-lines, spans_are, line_is}
