@@ -1,6 +1,6 @@
 // Runs over objects in memory.
 use super::*;
-use bulk_base::{Files, Sequence, Text, Texts};
+use bulk_base::{Files, Sequence, Text, Texts, words};
 use outside::{CallKind, Fail as Failing, Fails, Item, Items, MemRoom, MemSink, MemStore, MemTree};
 use std::alloc::Global;
 use std::test::Fail;
@@ -18,47 +18,39 @@ struct World {
     out: MemSink,
 }
 
-fn first(alloc: Global, call: CallKind, wanted: CallKind) -> Result<Fails, Fail> {
+/// The first call of one kind, as the one that fails.
+fn first(alloc: Global, call: CallKind) -> Result<Fails, Fail> {
     let mut fails = Sequence::new(alloc);
-    if call == wanted {
-        fails.push(Failing { call, number: 1 })?;
-    }
+    fails.push(Failing { call, number: 1 })?;
     Ok(fails)
 }
 
 /// An empty file of a store under each of the names.
 fn stored(alloc: Global, names: &[u8]) -> Result<Items, Fail> {
     let mut items = Sequence::new(alloc);
-    for name in names.split(|b| *b == b' ') {
-        if !name.is_empty() {
-            items.push(Item {
-                name: Text::from_bytes(alloc, name)?,
-                bytes: Sequence::new(alloc),
-            })?;
-        }
+    for name in &words_of(alloc, names)? {
+        items.push(Item {
+            name: name.copy(alloc)?,
+            bytes: Sequence::new(alloc),
+        })?;
     }
     Ok(items)
 }
 
-/// Objects with these files in the tree and these names in the store, of which the first call of one kind fails.
+/// Objects with these files in the tree and these names in the store. Of each the first call of one kind fails, if it has
+/// such calls.
 fn world_of(alloc: Global, files: Files, names: &[u8], fails: CallKind) -> Result<World, Fail> {
     Ok(World {
-        tree: MemTree::new(alloc, files, first(alloc, fails, CallKind::Bytes)?)?,
-        store: MemStore::new(alloc, stored(alloc, names)?, Sequence::new(alloc))?,
-        room: MemRoom::new(alloc, first(alloc, fails, CallKind::Clear)?)?,
-        out: MemSink::new(alloc, first(alloc, fails, CallKind::Write)?)?,
+        tree: MemTree::new(alloc, files, first(alloc, fails)?)?,
+        store: MemStore::new(alloc, stored(alloc, names)?, first(alloc, fails)?)?,
+        room: MemRoom::new(alloc, first(alloc, fails)?)?,
+        out: MemSink::new(alloc, first(alloc, fails)?)?,
     })
 }
 
 /// The words of a command.
 fn words_of(alloc: Global, command: &[u8]) -> Result<Texts, Fail> {
-    let mut words = Sequence::new(alloc);
-    for word in command.split(|b| *b == b' ') {
-        if !word.is_empty() {
-            words.push(Text::from_bytes(alloc, word)?)?;
-        }
-    }
-    Ok(words)
+    Ok(words(alloc, &Text::from_bytes(alloc, command)?)?)
 }
 
 /// The status of a run with these words.
