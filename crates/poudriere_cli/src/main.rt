@@ -22,7 +22,7 @@ use crate::dir_store::DirStore;
 use crate::dir_tree::DirTree;
 use crate::out_sink::OutSink;
 use crate::words::{WordsError, command_words};
-use bulk_base::NoMemory;
+use bulk_base::{NoMemory, Text};
 use bulk_run::Finished;
 use outside::{OpenGate, Sink};
 use std::alloc::Global;
@@ -77,23 +77,11 @@ fn print<K: Sink>(alloc: Global, out: &mut K, line: &str) {
     let _ = out.write(alloc, line.as_bytes());
 }
 
-fn main(rt: HostRuntime) -> ExitCode {
-    let alloc = rt.alloc();
-    let mut out = OutSink::new(rt.stdout());
-    let words = match command_words(&rt, alloc) {
-        Ok(words) => words,
-        Err(WordsError::NotText) => {
-            print(alloc, &mut out, USAGE);
-            return ExitCode::from(USAGE_STATUS);
-        }
-        Err(WordsError::NoMemory) => {
-            print(alloc, &mut out, OUT_OF_MEMORY);
-            return ExitCode::from(OUT_OF_MEMORY_STATUS);
-        }
-    };
-    let Ok(outside) = Outside::new(&rt, alloc) else {
-        print(alloc, &mut out, OUT_OF_MEMORY);
-        return ExitCode::from(OUT_OF_MEMORY_STATUS);
+/// Runs the command on what is outside; the exit status.
+fn run<K: Sink>(rt: &HostRuntime, alloc: Global, words: &[Text], out: &mut K) -> u8 {
+    let Ok(outside) = Outside::new(rt, alloc) else {
+        print(alloc, out, OUT_OF_MEMORY);
+        return OUT_OF_MEMORY_STATUS;
     };
     let Outside {
         mut tree,
@@ -105,15 +93,22 @@ fn main(rt: HostRuntime) -> ExitCode {
         answer: _,
         store: _,
         rooms: _,
-    } = bulk_run::poudriere(
-        &rt,
-        alloc,
-        words.as_slice(),
-        &mut tree,
-        store,
-        rooms,
-        &OpenGate,
-        &mut out,
-    );
-    ExitCode::from(status)
+    } = bulk_run::poudriere(rt, alloc, words, &mut tree, store, rooms, &OpenGate, out);
+    status
+}
+
+fn main(rt: HostRuntime) -> ExitCode {
+    let alloc = rt.alloc();
+    let mut out = OutSink::new(rt.stdout());
+    ExitCode::from(match command_words(&rt, alloc) {
+        Ok(words) => run(&rt, alloc, words.as_slice(), &mut out),
+        Err(WordsError::NotText) => {
+            print(alloc, &mut out, USAGE);
+            USAGE_STATUS
+        }
+        Err(WordsError::NoMemory) => {
+            print(alloc, &mut out, OUT_OF_MEMORY);
+            OUT_OF_MEMORY_STATUS
+        }
+    })
 }
