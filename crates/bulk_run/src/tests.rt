@@ -20,9 +20,7 @@ struct World {
 
 /// The first call of one kind, as the one that fails.
 fn first(alloc: Global, call: CallKind) -> Result<Fails, Fail> {
-    let mut fails = Sequence::new(alloc);
-    fails.push(Failing { call, number: 1 })?;
-    Ok(fails)
+    Ok(Sequence::from_slice(alloc, &[Failing { call, number: 1 }])?)
 }
 
 /// An empty file of a store under each of the names.

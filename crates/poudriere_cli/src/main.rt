@@ -22,7 +22,7 @@ use crate::dir_store::DirStore;
 use crate::dir_tree::DirTree;
 use crate::out_sink::OutSink;
 use crate::words::{WordsError, command_words};
-use bulk_base::{NoMemory, Text};
+use bulk_base::NoMemory;
 use bulk_run::Finished;
 use outside::{OpenGate, Sink};
 use std::alloc::Global;
@@ -72,16 +72,25 @@ impl<'a> Outside<'a> {
     }
 }
 
-/// Prints a line. A refusal keeps its status where its line is not taken.
-fn print<K: Sink>(alloc: Global, out: &mut K, line: &str) {
+/// Prints why no command was run; the exit status, whether the line is taken or not.
+fn refuse<K: Sink>(alloc: Global, out: &mut K, error: WordsError) -> ExitCode {
+    let (line, status) = match error {
+        WordsError::NotText => (USAGE, USAGE_STATUS),
+        WordsError::NoMemory => (OUT_OF_MEMORY, OUT_OF_MEMORY_STATUS),
+    };
     let _ = out.write(alloc, line.as_bytes());
+    ExitCode::from(status)
 }
 
-/// Runs the command on what is outside; the exit status.
-fn run<K: Sink>(rt: &HostRuntime, alloc: Global, words: &[Text], out: &mut K) -> u8 {
-    let Ok(outside) = Outside::new(rt, alloc) else {
-        print(alloc, out, OUT_OF_MEMORY);
-        return OUT_OF_MEMORY_STATUS;
+fn main(rt: HostRuntime) -> ExitCode {
+    let alloc = rt.alloc();
+    let mut out = OutSink::new(rt.stdout());
+    let words = match command_words(&rt, alloc) {
+        Ok(words) => words,
+        Err(error) => return refuse(alloc, &mut out, error),
+    };
+    let Ok(outside) = Outside::new(&rt, alloc) else {
+        return refuse(alloc, &mut out, WordsError::NoMemory);
     };
     let Outside {
         mut tree,
@@ -93,22 +102,15 @@ fn run<K: Sink>(rt: &HostRuntime, alloc: Global, words: &[Text], out: &mut K) ->
         answer: _,
         store: _,
         rooms: _,
-    } = bulk_run::poudriere(rt, alloc, words, &mut tree, store, rooms, &OpenGate, out);
-    status
-}
-
-fn main(rt: HostRuntime) -> ExitCode {
-    let alloc = rt.alloc();
-    let mut out = OutSink::new(rt.stdout());
-    ExitCode::from(match command_words(&rt, alloc) {
-        Ok(words) => run(&rt, alloc, words.as_slice(), &mut out),
-        Err(WordsError::NotText) => {
-            print(alloc, &mut out, USAGE);
-            USAGE_STATUS
-        }
-        Err(WordsError::NoMemory) => {
-            print(alloc, &mut out, OUT_OF_MEMORY);
-            OUT_OF_MEMORY_STATUS
-        }
-    })
+    } = bulk_run::poudriere(
+        &rt,
+        alloc,
+        words.as_slice(),
+        &mut tree,
+        store,
+        rooms,
+        &OpenGate,
+        &mut out,
+    );
+    ExitCode::from(status)
 }

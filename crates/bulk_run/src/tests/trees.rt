@@ -41,21 +41,28 @@ pub(super) fn decoded(alloc: Global, text: &[u8]) -> Result<Vec<u8>, AllocError>
     Ok(bytes)
 }
 
-/// The path that a file's name stands for: `*` the list of categories, `a` and `b` a category's list of ports, `+` MOVED, `m`
-/// make.conf, `o` the options file of a/x, `x`, `y` and `z` a description in the category a, and any other name itself.
+/// The short names of files: `*` the list of categories, `a` and `b` a category's list of ports, `+` MOVED, `m` make.conf, `o` the
+/// options file of a/x, `x`, `y` and `z` a description in the category a.
+const SHORT_NAMES: [(&[u8], &[u8]); 9] = [
+    (b"*", b"ports/subdir.vars"),
+    (b"a", b"ports/a/subdir.vars"),
+    (b"b", b"ports/b/subdir.vars"),
+    (b"+", b"ports/MOVED"),
+    (b"m", b"etc/make.conf"),
+    (b"o", b"etc/options/a_x/options"),
+    (b"x", b"ports/a/x/port.vars"),
+    (b"y", b"ports/a/y/port.vars"),
+    (b"z", b"ports/a/z/port.vars"),
+];
+
+/// The path that a file's name stands for: that of a short name, or the name itself.
 fn path_of(name: &[u8]) -> &[u8] {
-    match name {
-        b"*" => b"ports/subdir.vars",
-        b"a" => b"ports/a/subdir.vars",
-        b"b" => b"ports/b/subdir.vars",
-        b"+" => b"ports/MOVED",
-        b"m" => b"etc/make.conf",
-        b"o" => b"etc/options/a_x/options",
-        b"x" => b"ports/a/x/port.vars",
-        b"y" => b"ports/a/y/port.vars",
-        b"z" => b"ports/a/z/port.vars",
-        path => path,
+    for (short, path) in SHORT_NAMES {
+        if short == name {
+            return path;
+        }
     }
+    name
 }
 
 fn has_path(files: &Files, path: &Path) -> bool {

@@ -1,9 +1,10 @@
 // Where a dependency leads, and what an index holds.
-use crate::{At, Index, IndexError, NodeInfo, PortKind, index};
-use bulk_base::{Bytes, FileItem, Files, Path, Sequence, Text};
+use super::made::{push_all, push_error, push_file};
+use crate::{At, Index, NodeInfo, index};
+use bulk_base::{Files, Sequence, Text};
 use conf_file::read_make;
 use outside::MemTree;
-use std::alloc::{AllocError, Global};
+use std::alloc::Global;
 use std::test::Fail;
 
 /// Ports, each with its flavors behind `:`; MOVED; what the port a/t depends on; and where that leads: `node` and the
@@ -36,24 +37,9 @@ b/y|b/o!b/m!!~b/m!!!no upstream|b/o|nowhere b/o
 b/y|b/o!b/y!!|b/o@all|nowhere b/o@all
 b/y|b/o@all!b/y!!|b/o@all|moved b/o@all b/y";
 
-fn push_all(bytes: &mut Vec<u8>, parts: &[&[u8]]) -> Result<(), AllocError> {
-    for part in parts {
-        bytes.extend_from_slice(part)?;
-    }
-    Ok(())
-}
-
-fn push_file(alloc: Global, files: &mut Files, path: &[u8], bytes: Vec<u8>) -> Result<(), Fail> {
-    files.push(FileItem {
-        path: Path::from_bytes(alloc, path)?,
-        bytes: Bytes::from_vec(bytes),
-    })?;
-    Ok(())
-}
-
 /// The file that lists the ports of a category.
 fn ports_of(alloc: Global, category: &[u8], ports: &[u8]) -> Result<Vec<u8>, Fail> {
-    let mut bytes = Vec::from_slice(alloc, b"SUBDIR=")?;
+    let mut bytes = Vec::from_slice(alloc, b"&")?;
     for word in ports.split(|b| *b == b' ') {
         let mut parts = word.split(|b| *b == b'/' || *b == b':');
         if parts.next().unwrap_or_default() == category {
@@ -80,20 +66,7 @@ fn push_port(alloc: Global, files: &mut Files, word: &[u8], target: &[u8]) -> Re
     }
     let mut path = Vec::new(alloc);
     push_all(&mut path, &[b"ports/", category, b"/", port, b"/port.vars"])?;
-    push_file(alloc, files, path.as_slice(), vars)
-}
-
-/// The bytes that a case's MOVED stands for.
-fn decoded(alloc: Global, part: &[u8]) -> Result<Vec<u8>, AllocError> {
-    let mut bytes = Vec::new(alloc);
-    for byte in part {
-        bytes.push(match *byte {
-            b'~' => b'\n',
-            b'!' => b'|',
-            other => other,
-        })?;
-    }
-    Ok(bytes)
+    push_file(alloc, files, path.as_slice(), vars.as_slice())
 }
 
 /// A tree with some ports, and the port a/t that depends on what `target` names.
@@ -101,22 +74,13 @@ fn tree(alloc: Global, ports: &[u8], moved: &[u8], target: &[u8]) -> Result<MemT
     let mut all = Vec::from_slice(alloc, b"a/t ")?;
     all.extend_from_slice(ports)?;
     let mut files = Sequence::new(alloc);
-    push_file(
-        alloc,
-        &mut files,
-        b"ports/subdir.vars",
-        Vec::from_slice(alloc, b"SUBDIR=c a b a")?,
-    )?;
-    push_file(alloc, &mut files, b"ports/MOVED", decoded(alloc, moved)?)?;
+    push_file(alloc, &mut files, b"ports/subdir.vars", b"&c a b a")?;
+    push_file(alloc, &mut files, b"ports/MOVED", moved)?;
     for category in [b"a".as_slice(), b"b".as_slice(), b"c".as_slice()] {
         let mut path = Vec::new(alloc);
         push_all(&mut path, &[b"ports/", category, b"/subdir.vars"])?;
-        push_file(
-            alloc,
-            &mut files,
-            path.as_slice(),
-            ports_of(alloc, category, all.as_slice())?,
-        )?;
+        let ports = ports_of(alloc, category, all.as_slice())?;
+        push_file(alloc, &mut files, path.as_slice(), ports.as_slice())?;
     }
     push_port(alloc, &mut files, b"a/t", target)?;
     for word in ports.split(|b| *b == b' ') {
@@ -173,23 +137,29 @@ fn dependencies(rt: HostRuntime) -> Result<(), Fail> {
     Ok(())
 }
 
+/// An index of ports with flavors, of which one moved.
+fn index_of_moved(alloc: Global) -> Result<Index, Fail> {
+    index_in(alloc, b"b/y:q,p c/z a/t-x", b"b/o!b/y!!", b"t:c/z u:b/y")
+}
+
 #[test]
-fn nodes_names_and_moved_ports(rt: HostRuntime) -> Result<(), Fail> {
+fn nodes_in_order(rt: HostRuntime) -> Result<(), Fail> {
     let alloc = rt.alloc();
-    let index = index_in(alloc, b"b/y:q,p c/z a/t-x", b"b/o!b/y!!", b"t:c/z u:b/y")?;
+    let index = index_of_moved(alloc)?;
     let mut found = Vec::new(alloc);
     for node in index.nodes.as_slice() {
-        push_all(
-            &mut found,
-            &[
-                b" ",
-                node.node.bytes(),
-                if node.is_default { b"*" } else { b"" },
-            ],
-        )?;
+        let mark = if node.is_default { b"*" } else { b"-" };
+        push_all(&mut found, &[b" ", node.node.bytes(), mark])?;
     }
-    assert!(rt; found.as_slice() == b" a/t* a/t-x* b/y@p b/y@q* c/z*".as_slice());
+    assert!(rt; found.as_slice() == b" a/t* a/t-x* b/y@p- b/y@q* c/z*".as_slice());
     assert_eq!(rt; index.moved.lines().len(), 1);
+    Ok(())
+}
+
+#[test]
+fn names_that_are_there(rt: HostRuntime) -> Result<(), Fail> {
+    let alloc = rt.alloc();
+    let index = index_of_moved(alloc)?;
     for (name, is_there) in [
         (b"b/y".as_slice(), true),
         (b"b/y@q".as_slice(), true),
@@ -197,10 +167,8 @@ fn nodes_names_and_moved_ports(rt: HostRuntime) -> Result<(), Fail> {
         (b"b/o".as_slice(), false),
         (b"b/y@all".as_slice(), false),
     ] {
-        assert_eq!(rt;
-            index.names.holds(&Text::from_bytes(alloc, name)?),
-            is_there
-        );
+        let name = Text::from_bytes(alloc, name)?;
+        assert_eq!(rt; index.names.holds(&name), is_there);
     }
     Ok(())
 }
@@ -208,17 +176,13 @@ fn nodes_names_and_moved_ports(rt: HostRuntime) -> Result<(), Fail> {
 #[test]
 fn an_empty_tree(rt: HostRuntime) -> Result<(), Fail> {
     let alloc = rt.alloc();
+    let make = read_make(alloc, b"")?;
     let mut tree = MemTree::new(alloc, Sequence::new(alloc), Sequence::new(alloc))?;
-    let Err(IndexError::BadPort { path, line, kind }) = index(
-        alloc,
-        &mut tree,
-        &read_make(alloc, b"")?,
-        false,
-    ) else {
+    let Err(error) = index(alloc, &mut tree, &make, false) else {
         return Err(Fail::new("an index"));
     };
-    assert!(rt; path.is(b"ports/subdir.vars"));
-    assert_eq!(rt; line, 0);
-    assert!(rt; matches!(&kind, PortKind::Absent));
+    let mut found = Vec::new(alloc);
+    push_error(alloc, &mut found, &error)?;
+    assert!(rt; found.as_slice() == b"!ports/subdir.vars:0 absent".as_slice());
     Ok(())
 }

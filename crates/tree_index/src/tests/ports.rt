@@ -2,11 +2,11 @@
 ghost use Rattle.std.specs.Prelude.{IfOk};
 ghost use Rattle.tree_index.specs.Facts.{IsPlace};
 
-use crate::fault::{IndexError, PortKind};
+use super::made::{decoded, push_error, push_file, push_texts};
+use crate::fault::IndexError;
 use crate::node::{NodeInfo, NodeInfos};
 use crate::port_reading::read_port;
-use bulk_base::{Bytes, FileItem, Files, Path, Sequence, Text};
-use bulk_model::Which;
+use bulk_base::{Files, Sequence, Text};
 use conf_file::read_make;
 use outside::{CallKind, Fail as Failing, Fails, MemTree, Tree};
 use port_name::Origin;
@@ -15,9 +15,7 @@ use std::test::Fail;
 
 /// The options file and the port.vars of the port a/x, `-` for one that is absent; make.conf; `t` where BROKEN is passed
 /// over; and the answer: `=` and the nodes, the default with `*`, each with its package's name, the states of its options
-/// and why it is not built; or `!`, the file, the line and what is wrong.
-///
-/// In it `~` is a line feed and `^` sets PORTNAME to `x` and PORTVERSION to `1.0`.
+/// and why it is not built; or what the port is refused for.
 const CASES: &[u8] = br"-|^|||= a/x* x-1.0
 |^|||= a/x* x-1.0
 -|-|||!ports/a/x/port.vars:0 absent
@@ -53,19 +51,6 @@ OPTIONS_FILE_SET=B|^OPTIONS_DEFINE=B A~OPTIONS_DEFAULT=A|OPTIONS_UNSET=B A||= a/
 -|^BROKEN=c|TRYBROKEN=yes||= a/x* x-1.0 (is marked as broken: c)
 -|^BROKEN=~IGNORE=|||= a/x* x-1.0";
 
-/// The bytes that a case's part stands for.
-fn decoded(alloc: Global, part: &[u8]) -> Result<Vec<u8>, AllocError> {
-    let mut bytes = Vec::new(alloc);
-    for byte in part {
-        match *byte {
-            b'~' => bytes.push(b'\n')?,
-            b'^' => bytes.extend_from_slice(b"PORTNAME=x\nPORTVERSION=1.0\n")?,
-            other => bytes.push(other)?,
-        }
-    }
-    Ok(bytes)
-}
-
 fn origin(alloc: Global) -> Result<Origin, Fail>
     ensures { IfOk result IsPlace }
 {
@@ -75,33 +60,23 @@ fn origin(alloc: Global) -> Result<Origin, Fail>
     })
 }
 
-/// Puts a file into a list, if it is there.
-fn push_file(alloc: Global, files: &mut Files, path: &[u8], part: &[u8]) -> Result<(), Fail> {
-    if part != b"-".as_slice() {
-        files.push(FileItem {
-            path: Path::from_bytes(alloc, path)?,
-            bytes: Bytes::from_vec(decoded(alloc, part)?),
-        })?;
+/// The files of a port, those that are there.
+fn files_of(alloc: Global, options: &[u8], vars: &[u8]) -> Result<Files, Fail> {
+    let mut files = Sequence::new(alloc);
+    for (path, text) in [
+        (b"etc/options/a_x/options".as_slice(), options),
+        (b"ports/a/x/port.vars".as_slice(), vars),
+    ] {
+        if text != b"-".as_slice() {
+            push_file(alloc, &mut files, path, text)?;
+        }
     }
-    Ok(())
+    Ok(files)
 }
 
 /// A tree with the port's two files, with calls that fail.
 fn tree(alloc: Global, options: &[u8], vars: &[u8], fails: Fails) -> Result<MemTree, Fail> {
-    let mut files = Sequence::new(alloc);
-    push_file(alloc, &mut files, b"etc/options/a_x/options", options)?;
-    push_file(alloc, &mut files, b"ports/a/x/port.vars", vars)?;
-    Ok(MemTree::new(alloc, files, fails)?)
-}
-
-/// Puts a word and some texts at the end of a line, with blanks between.
-fn push_texts(out: &mut Vec<u8>, word: &[u8], texts: &[&Text]) -> Result<(), AllocError> {
-    out.extend_from_slice(word)?;
-    for text in texts {
-        out.push(b' ')?;
-        out.extend_from_slice(text.bytes())?;
-    }
-    Ok(())
+    Ok(MemTree::new(alloc, files_of(alloc, options, vars)?, fails)?)
 }
 
 fn push_node(out: &mut Vec<u8>, node: &NodeInfo) -> Result<(), AllocError> {
@@ -132,38 +107,6 @@ fn push_nodes(out: &mut Vec<u8>, nodes: &NodeInfos) -> Result<(), AllocError> {
         push_node(out, &nodes.as_slice()[at])?;
     }
     Ok(())
-}
-
-fn push_kind(alloc: Global, out: &mut Vec<u8>, kind: &PortKind) -> Result<(), Fail> {
-    match kind {
-        PortKind::Line(line) => out.extend_from_slice(line.to_string(alloc)?.as_str().as_bytes())?,
-        PortKind::Undefined { name } => push_texts(out, b"undefined", &[name])?,
-        PortKind::Group { group, on } => {
-            push_texts(out, b"group", &[group])?;
-            for name in on.as_slice() {
-                push_texts(out, b"", &[name])?;
-            }
-        }
-        PortKind::Prevented { a, b } => push_texts(out, b"prevented", &[a, b])?,
-        PortKind::BadFlavor { flavor } => push_texts(out, b"bad flavor", &[flavor])?,
-        PortKind::Missing { name } => push_texts(out, b"missing", &[name])?,
-        PortKind::BadValue { name } => push_texts(out, b"bad value", &[name])?,
-        PortKind::BadDepend { entry } => push_texts(out, b"bad dependency", &[entry])?,
-        PortKind::Target { entry } => push_texts(out, b"target", &[entry])?,
-        PortKind::Absent => out.extend_from_slice(b"absent")?,
-        PortKind::BadMoved => out.extend_from_slice(b"bad line of MOVED")?,
-    }
-    Ok(())
-}
-
-fn push_error(alloc: Global, out: &mut Vec<u8>, error: &IndexError) -> Result<(), Fail> {
-    match error {
-        IndexError::BadPort { path, line, kind } => {
-            out.extend_from_slice(format!(in alloc; "!{path}:{line} ")?.as_str().as_bytes())?;
-            push_kind(alloc, out, kind)
-        }
-        _ => Err(Fail::new("another refusal")),
-    }
 }
 
 /// What reading the port gives.
@@ -253,8 +196,8 @@ fn long_files(rt: HostRuntime) -> Result<(), Fail> {
     Ok(())
 }
 
-/// How many options or dependencies a refusal counts, and which of them.
-fn counted(alloc: Global, line: &[u8], word: &[u8], count: usize) -> Result<(Which, u64), Fail> {
+/// What a port gives with a line of so many words, each another one.
+fn answer_of_many(alloc: Global, line: &[u8], word: &[u8], count: usize) -> Result<Vec<u8>, Fail> {
     let mut vars = Vec::from_slice(alloc, line)?;
     for at in 0..count {
         vars.extend_from_slice(word)?;
@@ -262,16 +205,15 @@ fn counted(alloc: Global, line: &[u8], word: &[u8], count: usize) -> Result<(Whi
         vars.push(b'a' + (at % 26) as u8)?;
     }
     let mut tree = tree(alloc, b"-", vars.as_slice(), Sequence::new(alloc))?;
-    match read(alloc, &mut tree, b"", false)? {
-        Err(IndexError::Limit { which, count }) => Ok((which, count)),
-        _ => Err(Fail::new("no limit")),
-    }
+    answer(alloc, &mut tree, b"", false)
 }
 
 #[test]
 fn limits(rt: HostRuntime) -> Result<(), Fail> {
     let alloc = rt.alloc();
-    assert!(rt; counted(alloc, b"^OPTIONS_DEFINE=", b" O", 257)? == (Which::Options, 257));
-    assert!(rt; counted(alloc, b"^RUN_DEPENDS=", b" t:b/", 300)? == (Which::Depends, 300));
+    let options = answer_of_many(alloc, b"^OPTIONS_DEFINE=", b" O", 257)?;
+    assert!(rt; options.as_slice() == b"!options 257".as_slice());
+    let depends = answer_of_many(alloc, b"^RUN_DEPENDS=", b" t:b/", 300)?;
+    assert!(rt; depends.as_slice() == b"!dependencies 300".as_slice());
     Ok(())
 }

@@ -1,94 +1,61 @@
 // Cases of whole trees: each file's place among the others, the order of the nodes, and what a tree is refused for.
-use crate::fault::{IndexError, PortKind};
-use crate::node::NodeInfo;
+use super::made::{push_all, push_error, push_file};
+use crate::node::{NodeInfo, NodeInfos};
 use crate::tree_reading::{read_tree, refuse_many};
-use bulk_base::{Bytes, FileItem, Path, Sequence, Text};
-use bulk_model::{Steps, Which};
+use bulk_base::{Sequence, Text};
+use bulk_model::Steps;
 use conf_file::read_make;
+use moved_list::Moved;
 use outside::{CallKind, Fail as Failing, Fails, MemTree};
 use port_desc::Desc;
 use port_name::Origin;
 use std::alloc::{AllocError, Global};
 use std::test::Fail;
 
-/// The files of a tree, with `;` between; and the answer: `=`, how many lines MOVED has, and the nodes; or `!` and what is
-/// wrong, where it names a file with the file and the line.
+/// The files of a tree, with `;` between; and the answer: `=`, how many lines MOVED has, and the nodes; or what the tree is refused
+/// for.
 ///
 /// A file is a name, `:` and its bytes: `*` is the list of categories, `+` MOVED, `a` a category's list of ports, `a_x` a port's
-/// options file, and `a/x` a port's description. In the bytes `~` is a line feed, `$` sets SUBDIR, and `%` sets PORTVERSION to 1 and
-/// PORTNAME.
+/// options file, and `a/x` a port's description.
 const CASES: &[u8] = br">!ports/subdir.vars:0 absent
 *:>=0
-*:$>=0
-*:$a>!ports/a/subdir.vars:0 absent
-*:$a;a:>=0
-*:$a;a:$x>!ports/a/x/port.vars:0 absent
-*:$a;a:$x;a/x:%x>=0 a/x
-*:$a a;a:$x  x;a/x:%x>=0 a/x
-*:$a -b>!ports/subdir.vars:0 bad value
-*:$a;a:$x/y>!ports/a/subdir.vars:0 bad value
-*:$a~~B>!ports/subdir.vars:3 no operator
-*:$a~B;+:x>!ports/subdir.vars:2 no operator
-*:$-;+:x>!ports/subdir.vars:0 bad value
-*:$a;+:x>!ports/MOVED:1 bad line of MOVED
-*:$;+:#~a/x|a/y|d|r~~a/y||d|r~>=2
-*:$;+:#~a/x|a/y|d~>!ports/MOVED:2 bad line of MOVED
-*:$b a>!ports/a/subdir.vars:0 absent
-*:$a b;a:$x>!ports/a/x/port.vars:0 absent
-*:$a b;a:$x;a/x:%x>!ports/b/subdir.vars:0 absent
-*:$a;a:$y x>!ports/a/x/port.vars:0 absent
-*:$a;a:$x;a_x:A>!etc/options/a_x/options:1 no operator
-*:$a;a:$x;a/x:%x;a/y:%y;b:$z;b/z:%z>=0 a/x
-*:$b a-b a;a:$x;a-b:$y;b:$z;a/x:%x;a-b/y:%y;b/z:%z>=0 a-b/y a/x b/z
-*:$a;a:$x x-y;a/x-y:%z;a/x:%x~FLAVORS=b a~b_PKGNAMESUFFIX=-b>=0 a/x-y a/x@a a/x@b
-*:$a;a:$x y z;a/x:%q;a/y:%q;a/z:%q>!twins a/x a/y q-1
-*:$a;a:$w x y z;a/w:%q;a/x:%n;a/y:%n;a/z:%q>!twins a/w a/z q-1
-*:$a;a:$w x y;a/w:%q;a/x:%n;a/y:%n>!twins a/x a/y n-1
-*:$a;a:$x y z;a/x:%q;a/y:%q>!ports/a/z/port.vars:0 absent
-*:$a;a:$x;a/x:%x~FLAVORS=b a>!twins a/x@a a/x@b x-1";
+*:&>=0
+*:&a>!ports/a/subdir.vars:0 absent
+*:&a;a:>=0
+*:&a;a:&x>!ports/a/x/port.vars:0 absent
+*:&a;a:&x;a/x:%x>=0 a/x
+*:&a a;a:&x  x;a/x:%x>=0 a/x
+*:&a -b>!ports/subdir.vars:0 bad value SUBDIR
+*:&a;a:&x/y>!ports/a/subdir.vars:0 bad value SUBDIR
+*:&a~~B>!ports/subdir.vars:3 no operator
+*:&a~B;+:x>!ports/subdir.vars:2 no operator
+*:&-;+:x>!ports/subdir.vars:0 bad value SUBDIR
+*:&a;+:x>!ports/MOVED:1 bad line of MOVED
+*:&;+:#~a/x|a/y|d|r~~a/y||d|r~>=2
+*:&;+:#~a/x|a/y|d~>!ports/MOVED:2 bad line of MOVED
+*:&b a>!ports/a/subdir.vars:0 absent
+*:&a b;a:&x>!ports/a/x/port.vars:0 absent
+*:&a b;a:&x;a/x:%x>!ports/b/subdir.vars:0 absent
+*:&a;a:&y x>!ports/a/x/port.vars:0 absent
+*:&a;a:&x;a_x:A>!etc/options/a_x/options:1 no operator
+*:&a;a:&x;a/x:%x;a/y:%y;b:&z;b/z:%z>=0 a/x
+*:&b a-b a;a:&x;a-b:&y;b:&z;a/x:%x;a-b/y:%y;b/z:%z>=0 a-b/y a/x b/z
+*:&a;a:&x x-y;a/x-y:%z;a/x:%x~FLAVORS=b a~b_PKGNAMESUFFIX=-b>=0 a/x-y a/x@a a/x@b
+*:&a;a:&x y z;a/x:%q;a/y:%q;a/z:%q>!twins a/x a/y q-1
+*:&a;a:&w x y z;a/w:%q;a/x:%n;a/y:%n;a/z:%q>!twins a/w a/z q-1
+*:&a;a:&w x y;a/w:%q;a/x:%n;a/y:%n>!twins a/x a/y n-1
+*:&a;a:&x y z;a/x:%q;a/y:%q>!ports/a/z/port.vars:0 absent
+*:&a;a:&x;a/x:%x~FLAVORS=b a>!twins a/x@a a/x@b x-1";
 
-/// The path that a file's name stands for.
-fn path_of(alloc: Global, name: &[u8]) -> Result<Path, Fail> {
-    let (front, part, back) = if name == b"*".as_slice() {
-        (
-            b"ports/subdir".as_slice(),
-            b"".as_slice(),
-            b".vars".as_slice(),
-        )
-    } else if name == b"+".as_slice() {
-        (b"ports/MOVED".as_slice(), b"".as_slice(), b"".as_slice())
-    } else if name.contains(&b'_') {
-        (b"etc/options/".as_slice(), name, b"/options".as_slice())
-    } else if name.contains(&b'/') {
-        (b"ports/".as_slice(), name, b"/port.vars".as_slice())
-    } else {
-        (b"ports/".as_slice(), name, b"/subdir.vars".as_slice())
-    };
-    let mut path = Vec::from_slice(alloc, front)?;
-    path.extend_from_slice(part)?;
-    path.extend_from_slice(back)?;
-    Ok(Path::from_bytes(alloc, path.as_slice())?)
-}
-
-/// The bytes that a file's part stands for.
-fn decoded(alloc: Global, part: &[u8]) -> Result<Vec<u8>, AllocError> {
-    let mut bytes = Vec::new(alloc);
-    for byte in part {
-        match *byte {
-            b'~' => bytes.push(b'\n')?,
-            b'$' => bytes.extend_from_slice(b"SUBDIR=")?,
-            b'%' => bytes.extend_from_slice(b"PORTVERSION=1\nPORTNAME=")?,
-            other => bytes.push(other)?,
-        }
+/// The path that a file's name stands for, in three parts.
+fn path_of(name: &[u8]) -> [&[u8]; 3] {
+    match name {
+        b"*" => [b"ports/subdir", b"", b".vars"],
+        b"+" => [b"ports/MOVED", b"", b""],
+        _ if name.contains(&b'_') => [b"etc/options/", name, b"/options"],
+        _ if name.contains(&b'/') => [b"ports/", name, b"/port.vars"],
+        _ => [b"ports/", name, b"/subdir.vars"],
     }
-    Ok(bytes)
-}
-
-fn file_of(alloc: Global, name: &[u8], part: &[u8]) -> Result<FileItem, Fail> {
-    Ok(FileItem {
-        path: path_of(alloc, name)?,
-        bytes: Bytes::from_vec(decoded(alloc, part)?),
-    })
 }
 
 /// A tree with the files of a case, with calls that fail.
@@ -98,40 +65,32 @@ fn tree(alloc: Global, case: &[u8], fails: Fails) -> Result<MemTree, Fail> {
         let mut parts = file.splitn(2, |b| *b == b':');
         let name = parts.next().unwrap_or_default();
         if !name.is_empty() {
-            files.push(file_of(alloc, name, parts.next().unwrap_or_default())?)?;
+            let mut path = Vec::new(alloc);
+            push_all(&mut path, &path_of(name))?;
+            push_file(
+                alloc,
+                &mut files,
+                path.as_slice(),
+                parts.next().unwrap_or_default(),
+            )?;
         }
     }
     Ok(MemTree::new(alloc, files, fails)?)
 }
 
-fn kind_of(alloc: Global, kind: &PortKind) -> Result<String, Fail> {
-    Ok(match kind {
-        PortKind::Line(line) => line.to_string(alloc)?,
-        PortKind::BadValue { .. } => String::from_str(alloc, "bad value")?,
-        PortKind::Absent => String::from_str(alloc, "absent")?,
-        PortKind::BadMoved => String::from_str(alloc, "bad line of MOVED")?,
-        _ => String::from_str(alloc, "another kind")?,
-    })
-}
-
-fn refusal_of(alloc: Global, error: &IndexError) -> Result<String, Fail> {
-    Ok(match error {
-        IndexError::BadPort { path, line, kind } => {
-            let kind = kind_of(alloc, kind)?;
-            format!(in alloc; "!{path}:{line} {kind}")?
-        }
-        IndexError::Limit {
-            which: Which::Nodes,
-            count,
-        } => format!(in alloc; "!nodes {count}")?,
-        IndexError::Limit {
-            which: Which::FileBytes,
-            count,
-        } => format!(in alloc; "!bytes {count}")?,
-        IndexError::DupName { a, b, name } => format!(in alloc; "!twins {a} {b} {name}")?,
-        IndexError::TreeFault => String::from_str(alloc, "!fault")?,
-        _ => String::from_str(alloc, "!another refusal")?,
-    })
+/// Puts at the end what a tree is read as.
+fn push_tree(
+    alloc: Global,
+    out: &mut Vec<u8>,
+    moved: &Moved,
+    nodes: &NodeInfos,
+) -> Result<(), AllocError> {
+    let lines = moved.lines().len();
+    out.extend_from_slice(format!(in alloc; "={lines}")?.as_str().as_bytes())?;
+    for node in nodes.as_slice() {
+        push_all(out, &[b" ", node.node.bytes()])?;
+    }
+    Ok(())
 }
 
 /// What a tree gives, in the form of a case's answer.
@@ -139,15 +98,8 @@ fn answer(alloc: Global, tree: &mut MemTree) -> Result<Vec<u8>, Fail> {
     let make = read_make(alloc, b"")?;
     let mut out = Vec::new(alloc);
     match read_tree(alloc, tree, &make, false) {
-        Ok((moved, nodes)) => {
-            let lines = moved.lines().len();
-            out.extend_from_slice(format!(in alloc; "={lines}")?.as_str().as_bytes())?;
-            for node in nodes.as_slice() {
-                out.push(b' ')?;
-                out.extend_from_slice(node.node.bytes())?;
-            }
-        }
-        Err(error) => out.extend_from_slice(refusal_of(alloc, &error)?.as_str().as_bytes())?,
+        Ok((moved, nodes)) => push_tree(alloc, &mut out, &moved, &nodes)?,
+        Err(error) => push_error(alloc, &mut out, &error)?,
     }
     Ok(out)
 }
@@ -172,7 +124,7 @@ fn trees(rt: HostRuntime) -> Result<(), Fail> {
 fn answer_where(alloc: Global, number: u32) -> Result<Vec<u8>, Fail> {
     let call = CallKind::Bytes;
     let fails = Sequence::from_slice(alloc, &[Failing { call, number }])?;
-    let mut tree = tree(alloc, b"*:$a;a:$x;a/x:%x", fails)?;
+    let mut tree = tree(alloc, b"*:&a;a:&x;a/x:%x", fails)?;
     answer(alloc, &mut tree)
 }
 
@@ -188,7 +140,7 @@ fn reads_that_fail(rt: HostRuntime) -> Result<(), Fail> {
 
 /// What a tree without categories gives whose MOVED has so many bytes, all in one comment.
 fn answer_with(alloc: Global, bytes: usize) -> Result<Vec<u8>, Fail> {
-    let mut case = Vec::from_slice(alloc, b"*:$;+:")?;
+    let mut case = Vec::from_slice(alloc, b"*:&;+:")?;
     for _ in 0..bytes {
         case.push(b'#')?;
     }
@@ -236,21 +188,22 @@ fn small_node(alloc: Global) -> Result<NodeInfo, AllocError> {
 }
 
 /// What so many nodes are refused for, as a case's answer; empty where they are not.
-fn refusal_of_many(alloc: Global, count: usize) -> Result<String, Fail> {
+fn refusal_of_many(alloc: Global, count: usize) -> Result<Vec<u8>, Fail> {
     let mut nodes = Vec::new(alloc);
     for _ in 0..count {
         nodes.push(small_node(alloc)?)?;
     }
-    match refuse_many(nodes.as_slice()) {
-        Ok(()) => Ok(String::new(alloc)),
-        Err(error) => refusal_of(alloc, &error),
+    let mut out = Vec::new(alloc);
+    if let Err(error) = refuse_many(nodes.as_slice()) {
+        push_error(alloc, &mut out, &error)?;
     }
+    Ok(out)
 }
 
 #[test]
 fn many_nodes(rt: HostRuntime) -> Result<(), Fail> {
     let alloc = rt.alloc();
-    assert!(rt; refusal_of_many(alloc, 16_384)?.as_str() == "");
-    assert!(rt; refusal_of_many(alloc, 16_385)?.as_str() == "!nodes 16385");
+    assert!(rt; refusal_of_many(alloc, 16_384)?.is_empty());
+    assert!(rt; refusal_of_many(alloc, 16_385)?.as_slice() == b"!nodes 16385".as_slice());
     Ok(())
 }
