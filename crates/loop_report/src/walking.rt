@@ -2,7 +2,7 @@
 ghost use Rattle.std.specs.Prelude.{◌≡◌, ◌<◌, Some, length, slice_index, IfOk};
 ghost use Rattle.std.specs.Fn.{iterate};
 ghost use Rattle.std.specs.List.{All};
-ghost use Rattle.loop_report.specs.Walks.{least, round, loop_from};
+ghost use Rattle.loop_report.specs.Walks.{least, repeated, round, loop_from};
 
 use bulk_base::NoMemory;
 use std::alloc::Global;
@@ -47,6 +47,18 @@ fn least_of(numbers: &[u32]) -> Option<u32>
     numbers.iter().copied().min()
 }
 
+/// The least node of the part that the walk from a node repeats.
+fn loop_start(alloc: Global, steps: &[u32], first: u32) -> Result<u32, NoMemory>
+    requires steps { All (λ n. n < length steps.now) steps.now }
+    requires first { first < length steps.now }
+    ensures least { IfOk result (λ n. least (repeated (slice_index steps.now) (length steps.now) first) ≡ Some n) }
+    ensures below { IfOk result (λ n. n < length steps.now) }
+{
+    let within = far_along(steps, first);
+    let part = once_round(alloc, steps, within)?;
+    Ok(least_of(part.as_slice()).unwrap_or(within))
+}
+
 /// The part that the walk from a node repeats, turned to begin at its least node. Takes three times as many steps as there
 /// are nodes, at most.
 pub(crate) fn repeated_part(alloc: Global, steps: &[u32], first: u32) -> Result<Vec<u32>, NoMemory>
@@ -54,8 +66,6 @@ pub(crate) fn repeated_part(alloc: Global, steps: &[u32], first: u32) -> Result<
     requires first { first < length steps.now }
     ensures { IfOk result (λ nodes. nodes.items ≡ loop_from (slice_index steps.now) (length steps.now) (Some first)) }
 {
-    let within = far_along(steps, first);
-    let part = once_round(alloc, steps, within)?;
-    let least = least_of(part.as_slice()).unwrap_or(within);
-    once_round(alloc, steps, least)
+    let start = loop_start(alloc, steps, first)?;
+    once_round(alloc, steps, start)
 }
