@@ -1,6 +1,6 @@
 -- A folder into which files are put one after another.
 use Rattle.std.proofs.Common.{◌≡◌, ℕ, ◌+◌, ◌<◌, ◌≤◌, Bool, true, false, List, [], ◌∷◌, ◌++◌, ap, subst, sym, ◌∙◌, refl, arith, length, take, drop, get_or, length-append}
-use Rattle.std.specs.Prelude.{cond, not, nat_le, ◌&&◌, map, Some, None, bytes_eq, ◌||◌}
+use Rattle.std.specs.Prelude.{cond, not, nat_le, map, Some, None, bytes_eq, ◌||◌}
 use Rattle.std.specs.Cmp.Lexicographic.{nat_list_cmp_total, texts_ties}
 use Rattle.std.specs.declared.cmp.Ordering.TheVariants.{Less, Equal, Greater}
 use Rattle.std.specs.Ordering.{eq_by_cmp}

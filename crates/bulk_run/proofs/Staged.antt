@@ -1,6 +1,6 @@
 -- Files that are taken one after another from a listing.
-use Rattle.std.proofs.Common.{◌≡◌, ℕ, ◌+◌, ◌<◌, ◌≤◌, Bool, true, List, [], ◌∷◌, ◌++◌, ap, subst, sym, ◌∙◌, refl, arith, length, take, drop, get_or, map}
-use Rattle.std.specs.Prelude.{Option, Some, None, IfSome, nat_le, ◌&&◌}
+use Rattle.std.proofs.Common.{◌≡◌, ℕ, ◌+◌, ◌<◌, ◌≤◌, true, List, [], ◌∷◌, ◌++◌, ap, subst, sym, ◌∙◌, refl, length, take, drop, get_or, map}
+use Rattle.std.specs.Prelude.{Option, Some, None, IfSome, nat_le}
 use Rattle.std.specs.Option.{option_map, option_to_list}
 use Rattle.std.specs.List.{list_all, filter_map, cons_option}
 use Rattle.std.proofs.lemmas.List.{at_drop_more, take_more, map-append, append_assoc, append-nil, take_all}
