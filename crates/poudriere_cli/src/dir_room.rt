@@ -1,4 +1,8 @@
 // A room to build in, on a disk.
+ghost use Rattle.std.specs.Prelude.{◌≡◌, ◌∷◌, codes, IfOk};
+ghost use Rattle.std.specs.Process.{command_args, command_program};
+ghost use Rattle.std.specs.String.{string_bytes};
+ghost use Rattle.poudriere_cli.specs.Shell.{in_folder};
 
 use crate::fault::{noted, outer};
 use crate::folder_files::{first_bytes_of, listed};
@@ -55,7 +59,10 @@ impl<R: Files + Processes + AllocGlobal + Clone + Drop> DirRoom<R> {
     }
 
     /// The shell's command that runs these words in the room. What the shell itself says of the folder is not seen.
-    fn command(&self, alloc: Global, words: &[Text]) -> Result<Command, NoMemory> {
+    fn command(&self, alloc: Global, words: &[Text]) -> Result<Command, NoMemory>
+        ensures program { IfOk result (λ command. command_program command ≡ codes "/bin/sh") }
+        ensures words { IfOk result (λ command. command_args command ≡ codes "-c" ∷ in_folder ∷ string_bytes self.now.folder ∷ words.now) }
+    {
         let mut command = Command::new(alloc, "/bin/sh")?;
         command.arg("-c")?;
         command.arg(IN_FOLDER)?;

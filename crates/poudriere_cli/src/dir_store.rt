@@ -1,5 +1,5 @@
 // A package store on a disk.
-ghost use Rattle.std.specs.Prelude.{◌≤◌, IfOk, IfSome, vec_len};
+ghost use Rattle.std.specs.Prelude.{◌≡◌, ◌↔◌, ◌≤◌, IfOk, IfSome, vec_len};
 ghost use Rattle.outside.specs.Contents.{IsAscending};
 
 use crate::fault::{noted, outer};
@@ -113,7 +113,9 @@ impl<R: Files + AllocGlobal + Clone + Drop> Store for DirStore<R> {
     }
 }
 
-fn no_text(error: TextError) -> Outer {
+fn no_text(error: TextError) -> Outer
+    ensures { result ≡ Outer.NoMemory ↔ error ≡ TextError.NoMemory }
+{
     match error {
         TextError::NotText => Outer::Fault,
         TextError::NoMemory => Outer::NoMemory,

@@ -1,14 +1,17 @@
 // How failures of the system become the answers of an adapter, and how these are counted.
-ghost use Rattle.std.specs.Prelude.{◌≡◌};
+ghost use Rattle.std.specs.Prelude.{◌≡◌, ◌↔◌};
+ghost use Rattle.std.specs.IoError.{error_kind};
 ghost use Rattle.outside.specs.Faults.{HasCause};
 
 use outside::Outer;
-use std::io;
+use std::io::{self, ErrorKind};
 
 /// What a failed call of the system means to an adapter: want of memory, or a fault.
-pub fn outer(error: io::Error) -> Outer {
+pub fn outer(error: io::Error) -> Outer
+    ensures { result ≡ Outer.NoMemory ↔ error_kind error ≡ ErrorKind.OutOfMemory }
+{
     match error.kind() {
-        io::ErrorKind::OutOfMemory => Outer::NoMemory,
+        ErrorKind::OutOfMemory => Outer::NoMemory,
         _ => Outer::Fault,
     }
 }

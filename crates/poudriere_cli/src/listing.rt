@@ -1,17 +1,22 @@
 // The test that what a disk lists is a listing: in byte order, each once, and for paths none a folder of another.
-ghost use Rattle.std.specs.Prelude.{◌≡◌, ◌↔◌, not, IsTrue, IfOk, Contains};
+ghost use Rattle.std.specs.Prelude.{◌≡◌, ◌↔◌, not, IsTrue, IfOk, IfErr, Contains};
 ghost use Rattle.std.specs.List.{list_all};
 ghost use Rattle.std.specs.List.Sorted.{IsStrictlySortedBy};
 ghost use Rattle.bulk_base.specs.Path.{is_below};
+ghost use Rattle.std.specs.List.Sorted.{IsPermutation};
 ghost use Rattle.outside.specs.Contents.{IsAscending, IsListing, has_no_folder};
+ghost use Rattle.poudriere_cli.specs.Found.{HasTwice, IsNoListing};
 
 use bulk_base::{Path, Paths, Sequence, Text, Texts};
 use outside::Outer;
 
 /// The listing of the files below a folder that were found there, in any order. A fault where they make none: where
-/// one is not below the folder, stands there twice, or is a folder of another.
+/// one is not below the folder, stands there twice, or is a folder of another. NoMemory for want of memory alone.
+/// O(n log n) comparisons.
 pub fn listing(mut found: Vec<Path>, folder: &Path) -> Result<Paths, Outer>
-    ensures { IfOk result (IsListing folder.now) }
+    ensures listing { IfOk result (IsListing folder.now) }
+    ensures found { IfOk result (IsPermutation found.items) }
+    ensures fault { IfErr result (λ e. e ≡ Outer.Fault → IsNoListing folder.now found.items) }
 {
     found.sort()?;
     if is_listing(found.as_slice(), folder) {
@@ -21,9 +26,12 @@ pub fn listing(mut found: Vec<Path>, folder: &Path) -> Result<Paths, Outer>
     }
 }
 
-/// The names that were found, in byte order. A fault where one was found twice.
+/// The names that were found, in byte order. A fault where one was found twice. NoMemory for want of memory alone.
+/// O(n log n) comparisons.
 pub fn ascending(mut found: Vec<Text>) -> Result<Texts, Outer>
-    ensures { IfOk result IsAscending }
+    ensures ascending { IfOk result IsAscending }
+    ensures found { IfOk result (IsPermutation found.items) }
+    ensures fault { IfErr result (λ e. e ≡ Outer.Fault → HasTwice found.items) }
 {
     found.sort()?;
     if is_ascending(found.as_slice()) {

@@ -1,32 +1,41 @@
 // Where files stand on a disk, and how they are read.
-ghost use Rattle.std.specs.Prelude.{◌≤◌, IfOk, IfSome, vec_len};
+ghost use Rattle.std.specs.Prelude.{◌≡◌, ◌↔◌, ◌≤◌, ◌∷◌, ◌++◌, IfOk, ◌⊎◌, IfErr, IfSome, OnOk, string_bytes, vec_len};
+ghost use Rattle.std.specs.IoError.{error_kind};
 
 use crate::fault::outer;
 use bulk_base::NoMemory;
 use outside::Outer;
 use std::alloc::Global;
-use std::io::Read;
+use std::fs;
+use std::io::{self, ErrorKind, Read};
 use std::rt::Files;
-use std::{fs, io};
 
 /// The place of a name in a folder.
-pub fn place(alloc: Global, folder: &str, name: &str) -> Result<String, NoMemory> {
+pub fn place(alloc: Global, folder: &str, name: &str) -> Result<String, NoMemory>
+    ensures { IfOk result (λ place. string_bytes place ≡ folder.now ++ 47 ∷ name.now) }
+{
     format!(in alloc; "{folder}/{name}")
 }
 
 /// Passes over the failure of a call at a place where nothing stands: there is no such name, or a part of the way
 /// to it is a plain file. A link to nothing is something.
-pub fn pass_absent(rt: &impl Files, place: &str, error: io::Error) -> Result<(), Outer> {
+pub fn pass_absent(rt: &impl Files, place: &str, error: io::Error) -> Result<(), Outer>
+    ensures passed { OnOk result (error_kind error ≡ ErrorKind.NotADirectory ⊎ error_kind error ≡ ErrorKind.NotFound) }
+    ensures told { IfErr result (λ e. e ≡ Outer.NoMemory ↔ error_kind error ≡ ErrorKind.OutOfMemory) }
+{
     match error.kind() {
-        io::ErrorKind::NotADirectory => Ok(()),
+        ErrorKind::NotADirectory => Ok(()),
         _ => pass_no_name(rt, place, error),
     }
 }
 
 /// Passes over the failure of a call at a place where there is no such name.
-pub fn pass_no_name(rt: &impl Files, place: &str, error: io::Error) -> Result<(), Outer> {
+pub fn pass_no_name(rt: &impl Files, place: &str, error: io::Error) -> Result<(), Outer>
+    ensures passed { OnOk result (error_kind error ≡ ErrorKind.NotFound) }
+    ensures told { IfErr result (λ e. e ≡ Outer.NoMemory ↔ error_kind error ≡ ErrorKind.OutOfMemory) }
+{
     match error.kind() {
-        io::ErrorKind::NotFound if is_free(rt, place) => Ok(()),
+        ErrorKind::NotFound if is_free(rt, place) => Ok(()),
         _ => Err(outer(error)),
     }
 }
@@ -34,7 +43,7 @@ pub fn pass_no_name(rt: &impl Files, place: &str, error: io::Error) -> Result<()
 fn is_free(rt: &impl Files, place: &str) -> bool {
     match fs::symlink_metadata(rt, place) {
         Ok(_) => false,
-        Err(error) => error.kind() == io::ErrorKind::NotFound,
+        Err(error) => error.kind() == ErrorKind::NotFound,
     }
 }
 

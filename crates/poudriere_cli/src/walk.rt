@@ -1,4 +1,7 @@
 // A walk over all files below a folder of a disk.
+ghost use Rattle.std.specs.Prelude.{◌≡◌, ◌↔◌, ◌∷◌, [], IfOk};
+ghost use Rattle.bulk_base.specs.Path.{joined};
+
 use crate::fault::outer;
 use crate::place::{pass_absent, place};
 use bulk_base::{NoMemory, Path, PathError};
@@ -20,7 +23,11 @@ struct Walk {
 }
 
 impl Walk {
-    fn from_folder(alloc: Global, folder: &Path) -> Result<Walk, NoMemory> {
+    fn from_folder(alloc: Global, folder: &Path) -> Result<Walk, NoMemory>
+        ensures pending { IfOk result (λ walk. walk.pending.items ≡ folder.now ∷ []) }
+        ensures found { IfOk result (λ walk. walk.found.items ≡ []) }
+        ensures left { IfOk result (λ walk. walk.left ≡ 1000000) }
+    {
         let mut pending = Vec::new(alloc);
         pending.push(folder.copy(alloc)?)?;
         Ok(Walk {
@@ -75,12 +82,16 @@ impl Walk {
 }
 
 /// The path of a name in a folder. A fault where there is no such path.
-fn below(alloc: Global, folder: &Path, name: &str) -> Result<Path, Outer> {
+fn below(alloc: Global, folder: &Path, name: &str) -> Result<Path, Outer>
+    ensures { IfOk result (λ path. path ≡ joined folder.now name.now) }
+{
     let name = Path::from_bytes(alloc, name.as_bytes()).map_err(no_path)?;
     folder.join(alloc, &name).map_err(no_path)
 }
 
-fn no_path(error: PathError) -> Outer {
+fn no_path(error: PathError) -> Outer
+    ensures { result ≡ Outer.NoMemory ↔ error ≡ PathError.NoMemory }
+{
     match error {
         PathError::BadPath => Outer::Fault,
         PathError::NoMemory => Outer::NoMemory,

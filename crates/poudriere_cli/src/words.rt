@@ -1,7 +1,11 @@
 // The words of the command line.
+ghost use Rattle.std.specs.Prelude.{◌≡◌, ◌↔◌};
+ghost use Rattle.std.specs.IoError.{error_kind};
+
 use bulk_base::{Sequence, Text, TextError, Texts};
 use std::alloc::{AllocError, Global};
-use std::{env, io};
+use std::env;
+use std::io::{self, ErrorKind};
 
 /// Why there are no words.
 #[derive(Clone, Copy, Debug, PartialEq, Eq)]
@@ -13,12 +17,21 @@ pub enum WordsError {
 }
 
 impl From<AllocError> for WordsError {
+    ghost use Rattle.poudriere_cli.specs.declared.words.WordsError.TheVariants.{NoMemory as Refused};
+
+    ghost from_gives = { λ _ e. e ≡ Refused };
+
     fn from(_: AllocError) -> WordsError {
         WordsError::NoMemory
     }
 }
 
 impl From<TextError> for WordsError {
+    ghost use Rattle.bulk_base.specs.declared.text.TextError.TheVariants as text;
+    ghost use Rattle.poudriere_cli.specs.declared.words.WordsError.TheVariants.{NoMemory as Refused};
+
+    ghost from_gives = { λ error e. e ≡ Refused ↔ error ≡ text.NoMemory };
+
     fn from(error: TextError) -> WordsError {
         match error {
             TextError::NotText => WordsError::NotText,
@@ -29,9 +42,14 @@ impl From<TextError> for WordsError {
 
 /// Without want of memory the system's arguments are refused as a whole where one is not UTF-8.
 impl From<io::Error> for WordsError {
+    ghost use Rattle.std.specs.declared.io.ErrorKind.TheVariants.{OutOfMemory};
+    ghost use Rattle.poudriere_cli.specs.declared.words.WordsError.TheVariants.{NoMemory as Refused};
+
+    ghost from_gives = { λ error e. e ≡ Refused ↔ error_kind error ≡ OutOfMemory };
+
     fn from(error: io::Error) -> WordsError {
         match error.kind() {
-            io::ErrorKind::OutOfMemory => WordsError::NoMemory,
+            ErrorKind::OutOfMemory => WordsError::NoMemory,
             _ => WordsError::NotText,
         }
     }
