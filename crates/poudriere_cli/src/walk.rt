@@ -1,6 +1,7 @@
 // A walk over all files below a folder of a disk.
-ghost use Rattle.std.specs.Prelude.{◌≡◌, ◌↔◌, ◌∷◌, [], IfOk};
-ghost use Rattle.bulk_base.specs.Path.{joined};
+ghost use Rattle.std.specs.Prelude.{◌≡◌, ◌↔◌, ◌<◌, ◌∷◌, [], ◌⊎◌, length, IfOk, IfErr};
+ghost use Rattle.bulk_base.specs.Path.{joined, IsPath};
+ghost use Rattle.bulk_base.specs.Text.{IsText};
 
 use crate::fault::outer;
 use crate::place::{pass_absent, place};
@@ -83,7 +84,8 @@ impl Walk {
 
 /// The path of a name in a folder. A fault where there is no such path.
 fn below(alloc: Global, folder: &Path, name: &str) -> Result<Path, Outer>
-    ensures { IfOk result (λ path. path ≡ joined folder.now name.now) }
+    ensures path { IfOk result (λ path. path ≡ joined folder.now name.now) }
+    ensures fault { IfErr result (λ e. e ≡ Outer.Fault → (¬ (IsText name.now × IsPath name.now)) ⊎ (1024 < length (joined folder.now name.now))) }
 {
     let name = Path::from_bytes(alloc, name.as_bytes()).map_err(no_path)?;
     folder.join(alloc, &name).map_err(no_path)
