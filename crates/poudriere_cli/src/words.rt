@@ -1,6 +1,9 @@
 // The words of the command line.
 ghost use Rattle.std.specs.Prelude.{◌≡◌, ◌↔◌};
 ghost use Rattle.std.specs.IoError.{error_kind};
+ghost use Rattle.std.specs.declared.io.ErrorKind.TheVariants.{OutOfMemory};
+ghost use Rattle.bulk_base.specs.declared.text.TextError.TheVariants as text;
+ghost use Rattle.poudriere_cli.specs.declared.words.WordsError.TheVariants.{NoMemory as Refused};
 
 use bulk_base::{Sequence, Text, TextError, Texts};
 use std::alloc::{AllocError, Global};
@@ -17,8 +20,6 @@ pub enum WordsError {
 }
 
 impl From<AllocError> for WordsError {
-    ghost use Rattle.poudriere_cli.specs.declared.words.WordsError.TheVariants.{NoMemory as Refused};
-
     ghost from_gives = { λ _ e. e ≡ Refused };
 
     fn from(_: AllocError) -> WordsError {
@@ -27,9 +28,6 @@ impl From<AllocError> for WordsError {
 }
 
 impl From<TextError> for WordsError {
-    ghost use Rattle.bulk_base.specs.declared.text.TextError.TheVariants as text;
-    ghost use Rattle.poudriere_cli.specs.declared.words.WordsError.TheVariants.{NoMemory as Refused};
-
     ghost from_gives = { λ error e. e ≡ Refused ↔ error ≡ text.NoMemory };
 
     fn from(error: TextError) -> WordsError {
@@ -42,9 +40,6 @@ impl From<TextError> for WordsError {
 
 /// Without want of memory the system's arguments are refused as a whole where one is not UTF-8.
 impl From<io::Error> for WordsError {
-    ghost use Rattle.std.specs.declared.io.ErrorKind.TheVariants.{OutOfMemory};
-    ghost use Rattle.poudriere_cli.specs.declared.words.WordsError.TheVariants.{NoMemory as Refused};
-
     ghost from_gives = { λ error e. e ≡ Refused ↔ error_kind error ≡ OutOfMemory };
 
     fn from(error: io::Error) -> WordsError {
