@@ -1,5 +1,5 @@
 // A room to build in, on a disk.
-ghost use Rattle.std.specs.Prelude.{◌≡◌, ◌∷◌, codes, IfOk};
+ghost use Rattle.std.specs.Prelude.{◌≡◌, ◌∷◌, [], codes, IfOk};
 ghost use Rattle.std.specs.Process.{command_args, command_program};
 ghost use Rattle.std.specs.String.{string_bytes};
 ghost use Rattle.poudriere_cli.specs.Shell.{in_folder};
@@ -31,7 +31,11 @@ pub struct DirRoom<R: Files + Processes + AllocGlobal + Clone + Drop> {
 
 impl<R: Files + Processes + AllocGlobal + Clone + Drop> DirRoom<R> {
     /// The room in a folder, which may be absent: the first build makes it.
-    pub fn new(rt: R, alloc: Global, folder: String) -> DirRoom<R> {
+    pub fn new(rt: R, alloc: Global, folder: String) -> DirRoom<R>
+        ensures folder { result.folder ≡ folder }
+        ensures begun { result.begun.items ≡ [] }
+        ensures faults { result.faults ≡ 0 }
+    {
         DirRoom {
             rt,
             folder,

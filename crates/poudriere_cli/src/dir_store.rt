@@ -22,7 +22,10 @@ pub struct DirStore<R: Files + AllocGlobal + Clone + Drop> {
 
 impl<R: Files + AllocGlobal + Clone + Drop> DirStore<R> {
     /// The store in a folder, which may be absent: the first file that is put makes it.
-    pub fn new(rt: R, folder: String) -> DirStore<R> {
+    pub fn new(rt: R, folder: String) -> DirStore<R>
+        ensures folder { result.folder ≡ folder }
+        ensures faults { result.faults ≡ 0 }
+    {
         DirStore {
             rt,
             folder,

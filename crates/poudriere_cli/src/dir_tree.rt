@@ -1,4 +1,6 @@
 // A ports tree on a disk.
+ghost use Rattle.std.specs.Prelude.{◌≡◌};
+
 use crate::fault::noted;
 use crate::folder_files::{first_bytes_of, listed};
 use bulk_base::{Path, Paths};
@@ -16,7 +18,10 @@ pub struct DirTree<R: Files + AllocGlobal + Clone + Drop> {
 
 impl<R: Files + AllocGlobal + Clone + Drop> DirTree<R> {
     /// The tree in a folder, which may be absent.
-    pub fn new(rt: R, folder: String) -> DirTree<R> {
+    pub fn new(rt: R, folder: String) -> DirTree<R>
+        ensures folder { result.folder ≡ folder }
+        ensures faults { result.faults ≡ 0 }
+    {
         DirTree {
             rt,
             folder,

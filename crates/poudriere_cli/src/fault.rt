@@ -1,14 +1,15 @@
 // How failures of the system become the answers of an adapter, and how these are counted.
-ghost use Rattle.std.specs.Prelude.{◌≡◌, ◌↔◌};
+ghost use Rattle.std.specs.Prelude.{◌≡◌};
 ghost use Rattle.std.specs.IoError.{error_kind};
 ghost use Rattle.outside.specs.Faults.{HasCause};
+ghost use Rattle.poudriere_cli.specs.Failing.{IsOuterOf};
 
 use outside::Outer;
 use std::io::{self, ErrorKind};
 
 /// What a failed call of the system means to an adapter: want of memory, or a fault.
 pub fn outer(error: io::Error) -> Outer
-    ensures { result ≡ Outer.NoMemory ↔ error_kind error ≡ ErrorKind.OutOfMemory }
+    ensures { IsOuterOf (error_kind error) result }
 {
     match error.kind() {
         ErrorKind::OutOfMemory => Outer::NoMemory,

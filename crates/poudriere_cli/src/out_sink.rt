@@ -1,4 +1,6 @@
 // Printed text that goes to a writer, as standard output.
+ghost use Rattle.std.specs.Prelude.{◌≡◌};
+
 use crate::fault::{noted, outer};
 use outside::{Outer, Sink};
 use std::alloc::Global;
@@ -13,7 +15,9 @@ pub struct OutSink<W: Write + Drop> {
 
 impl<W: Write + Drop> OutSink<W> {
     /// The sink that writes there.
-    pub fn new(writer: W) -> OutSink<W> {
+    pub fn new(writer: W) -> OutSink<W>
+        ensures { result.faults ≡ 0 }
+    {
         OutSink { writer, faults: 0 }
     }
 }

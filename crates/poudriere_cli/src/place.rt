@@ -1,6 +1,7 @@
 // Where files stand on a disk, and how they are read.
-ghost use Rattle.std.specs.Prelude.{◌≡◌, ◌↔◌, ◌≤◌, ◌∷◌, ◌++◌, IfOk, ◌⊎◌, IfErr, IfSome, OnOk, string_bytes, vec_len};
+ghost use Rattle.std.specs.Prelude.{◌≡◌, ◌≤◌, ◌∷◌, ◌++◌, ◌⊎◌, IfOk, IfErr, IfSome, OnOk, string_bytes, vec_len};
 ghost use Rattle.std.specs.IoError.{error_kind};
+ghost use Rattle.poudriere_cli.specs.Failing.{IsOuterOf};
 
 use crate::fault::outer;
 use bulk_base::NoMemory;
@@ -21,7 +22,7 @@ pub fn place(alloc: Global, folder: &str, name: &str) -> Result<String, NoMemory
 /// to it is a plain file. A link to nothing is something.
 pub fn pass_absent(rt: &impl Files, place: &str, error: io::Error) -> Result<(), Outer>
     ensures passed { OnOk result (error_kind error ≡ ErrorKind.NotADirectory ⊎ error_kind error ≡ ErrorKind.NotFound) }
-    ensures told { IfErr result (λ e. e ≡ Outer.NoMemory ↔ error_kind error ≡ ErrorKind.OutOfMemory) }
+    ensures told { IfErr result (IsOuterOf (error_kind error)) }
 {
     match error.kind() {
         ErrorKind::NotADirectory => Ok(()),
@@ -32,7 +33,7 @@ pub fn pass_absent(rt: &impl Files, place: &str, error: io::Error) -> Result<(),
 /// Passes over the failure of a call at a place where there is no such name.
 pub fn pass_no_name(rt: &impl Files, place: &str, error: io::Error) -> Result<(), Outer>
     ensures passed { OnOk result (error_kind error ≡ ErrorKind.NotFound) }
-    ensures told { IfErr result (λ e. e ≡ Outer.NoMemory ↔ error_kind error ≡ ErrorKind.OutOfMemory) }
+    ensures told { IfErr result (IsOuterOf (error_kind error)) }
 {
     match error.kind() {
         ErrorKind::NotFound if is_free(rt, place) => Ok(()),
