@@ -1,13 +1,23 @@
 -- Folders of a path: its beginnings that end before a slash.
-use Rattle.std.proofs.Common.{◌≡◌, ℕ, ◌+◌, ◌<◌, true, false, not, List, ◌∷◌, ◌++◌, length, get_or, take, drop, Contains, arith, sym, ap, subst, ◌∙◌, inl, inr, ◌⊎◌, suc}
-use Rattle.std.specs.List.{list_all}
-use Rattle.std.proofs.lemmas.Bool.{cases_Bool}
-use Rattle.std.proofs.lemmas.List.{length-append, take-append-drop, get_or_default}
-use Rattle.std.proofs.lemmas.List.Sums.{list_all-from_AllPass}
-use Rattle.std.proofs.lemmas.List.Folds.{list_all_at}
+use Rattle.std.proofs.Common.{◌≡◌, ℕ, ◌+◌, ◌<◌, Bool, true, false, List, [], ◌∷◌, ◌++◌, length, get_or, take, drop, arith, sym, ap, subst, ◌∙◌, refl, suc, true≢false}
+use Rattle.std.specs.Prelude.{◌||◌}
+use Rattle.std.specs.List.{list_any}
+use Rattle.std.specs.Ordering.{eq_by_cmp}
+use Rattle.std.specs.Cmp.Lexicographic.{texts_ties}
+use Rattle.std.proofs.lemmas.Slice.Eq.{bytes_eq-Decides}
+use Rattle.std.proofs.lemmas.List.{length-append, take-append-drop}
 use Rattle.std.proofs.Math.Seq.{get_or-append_seam, take-append_seam, drop-cons}
 use Rattle.bulk_base.specs.Path.{is_below, joined}
+use Rattle.bulk_base.proofs.MapView.{order}
 use Rattle.bulk_base.proofs.Paths.{below_is_joined, is_below-joined}
+
+or_second : (a b : Bool) → b ≡ true → (a || b) ≡ true
+or_second true b h = refl
+or_second false b h = h
+
+or_rest : (a b : Bool) → (a || b) ≡ false → b ≡ false
+or_rest true b h = absurd (true≢false h)
+or_rest false b h = h
 
 -- what a folder is joined to begins with the folder, and a slash stands behind that
 slash_behind : (folder path : List ℕ) → is_below folder path ≡ true → (length folder < length path) × (get_or path (length folder) 0 ≡ 47) × (take (length folder) path ≡ folder)
@@ -19,17 +29,6 @@ slash_behind folder path h =
       ap (take (length folder)) e ∙ take-append_seam folder (47 ∷ rest),
     )
 
--- no folder of the path is among the paths, where none of its beginnings that end before a slash is
-pub none_above : (paths : List (List ℕ)) (path : List ℕ) → ((k : ℕ) → k < length path → get_or path k 0 ≡ 47 → Contains paths (take k path) → ⊥)
-    → list_all (λ folder. not (is_below folder path)) paths ≡ true
-none_above paths path h = list_all-from_AllPass (λ folder. not (is_below folder path)) paths (λ k d l. apart k d l (cases_Bool (is_below (get_or paths k d) path)))
-  where
-    apart : (k : ℕ) (d : List ℕ) → k < length paths → (is_below (get_or paths k d) path ≡ true) ⊎ (is_below (get_or paths k d) path ≡ false) → not (is_below (get_or paths k d) path) ≡ true
-    apart k d l (inl e) =
-        let s = slash_behind (get_or paths k d) path e in
-        absurd (h (length (get_or paths k d)) s.0 s.1 (k, l, get_or_default paths k _ d l ∙ sym s.2))
-    apart k d l (inr e) = ap not e
-
 -- the beginning of a path that ends before a slash is a folder of the path
 pub begins_below : (path : List ℕ) (k : ℕ) → k < length path → get_or path k 0 ≡ 47 → is_below (take k path) path ≡ true
 begins_below path k l e =
@@ -37,6 +36,38 @@ begins_below path k l e =
     sym (take-append-drop k path) ∙ ap (λ l. take k path ++ l) (drop-cons path k 0 l ∙ ap (λ b. b ∷ drop (suc k) path) e) in
     subst (λ p. is_below (take k path) p ≡ true) (sym whole) (is_below-joined (take k path) (drop (suc k) path))
 
--- a folder of the path is among the paths
-pub one_above : (paths : List (List ℕ)) (path : List ℕ) (k : ℕ) → k < length path → get_or path k 0 ≡ 47 → Contains paths (take k path) → list_all (λ folder. not (is_below folder path)) paths ≡ false
-one_above paths path k l e c = list_all_at (λ folder. not (is_below folder path)) paths c.0 (take k path) c.1 (ap (λ f. not (is_below f path)) c.2 ∙ ap not (begins_below path k l e))
+-- a folder of the path is among the paths where one of its beginnings that end before a slash is
+pub one_above : (paths : List (List ℕ)) (path : List ℕ) (k : ℕ) → k < length path → get_or path k 0 ≡ 47 → list_any (eq_by_cmp order (take k path)) paths ≡ true
+    → list_any (λ folder. is_below folder path) paths ≡ true
+one_above [] path k l e h = h
+one_above (folder ∷ paths) path k l e h = elim (eq_by_cmp order (take k path) folder) as (λ b. eq_by_cmp order (take k path) folder ≡ b
+    → (b || list_any (eq_by_cmp order (take k path)) paths) ≡ true → (is_below folder path || list_any (λ f. is_below f path) paths) ≡ true) [
+      | true ↦ λ same h.
+          let is : take k path ≡ folder = (bytes_eq-Decides (take k path) folder).0 (texts_ties (take k path) folder ∙ same) in
+          ap (λ b. b || list_any (λ f. is_below f path) paths) (subst (λ f. is_below f path ≡ true) is (begins_below path k l e))
+      | false ↦ λ other h. or_second _ _ (one_above paths path k l e h)
+    ] refl h
+
+-- and only there
+pub none_above : (paths : List (List ℕ)) (path : List ℕ) → ((k : ℕ) → k < length path → get_or path k 0 ≡ 47 → list_any (eq_by_cmp order (take k path)) paths ≡ false)
+    → list_any (λ folder. is_below folder path) paths ≡ false
+none_above [] path h = refl
+none_above (folder ∷ paths) path h = elim (is_below folder path) as (λ b. is_below folder path ≡ b → (b || list_any (λ f. is_below f path) paths) ≡ false) [
+  | true ↦ λ below.
+      let s = slash_behind folder path below in
+      let same : eq_by_cmp order (take (length folder) path) folder ≡ true = subst (λ t. eq_by_cmp order t folder ≡ true) (sym s.2) (sym (texts_ties folder folder) ∙ (bytes_eq-Decides folder folder).1 refl) in
+      absurd (true≢false (sym (ap (λ b. b || list_any (eq_by_cmp order (take (length folder) path)) paths) same) ∙ h (length folder) s.0 s.1))
+  | false ↦ λ apart. none_above paths path (λ k l e. or_rest _ _ (h k l e))
+] refl
+
+shuffled : (a b s t : Bool) → ((a || b) || (s || t)) ≡ ((a || s) || (b || t))
+shuffled true b s t = refl
+shuffled false true true t = refl
+shuffled false true false t = refl
+shuffled false false s t = refl
+
+-- a path above or below is one below, or one above
+pub any_nested : (path : List ℕ) (paths : List (List ℕ)) → list_any (λ other. is_below path other || is_below other path) paths ≡ (list_any (is_below path) paths || list_any (λ other. is_below other path) paths)
+any_nested path [] = refl
+any_nested path (other ∷ paths) =
+    ap (λ b. (is_below path other || is_below other path) || b) (any_nested path paths) ∙ shuffled (is_below path other) (is_below other path) (list_any (is_below path) paths) (list_any (λ o. is_below o path) paths)

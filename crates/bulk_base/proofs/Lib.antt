@@ -9,3 +9,7 @@ pub mod TextTests
 pub mod Above
 pub mod Sizes
 pub mod Places
+pub mod Together
+pub mod Members
+pub mod Least
+pub mod Totals

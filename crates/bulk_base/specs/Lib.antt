@@ -5,3 +5,6 @@ pub mod Trim
 pub mod Number
 pub mod Lines
 pub mod Names
+pub mod Order
+pub mod Least
+pub mod Totals

@@ -6,6 +6,7 @@ mod file;
 mod known;
 mod line;
 mod numeral;
+mod order;
 mod path;
 mod path_map;
 mod place;
@@ -19,8 +20,9 @@ mod word;
 
 pub use copying::{add_copies, copies, copy_of, switch_copies};
 pub use file::{FileItem, Files, Switch, Switches};
-pub use line::{Span, Spans, lines};
+pub use line::{NumberedLine, Span, Spans, lines, numbered_line};
 pub use numeral::{decimal, number};
+pub use order::{in_order, lower};
 pub use path::{Path, PathError, Paths};
 pub use path_map::PathMap;
 pub use place::place_or_end;

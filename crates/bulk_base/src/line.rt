@@ -1,7 +1,7 @@
 // The lines of a file.
-ghost use Rattle.std.specs.Prelude.{◌≡◌, ◌<◌, ◌≤◌, ◌-◌, length, take, drop, All, IfOk, OnOk, ◌++◌, ◌∷◌, []};
+ghost use Rattle.std.specs.Prelude.{◌≡◌, ◌<◌, ◌≤◌, ◌+◌, ◌-◌, ◌^◌, length, take, drop, slice_index_or, All, IfOk, OnOk, ◌++◌, ◌∷◌, []};
 ghost use Rattle.std.specs.Str.Lines.{lines as lines_of, strip_carriage_return};
-ghost use Rattle.bulk_base.specs.Lines.{bytes_at, cut_at, IsSpanWithin};
+ghost use Rattle.bulk_base.specs.Lines.{bytes_at, cut_at, spans_of, IsSpanWithin};
 
 use crate::sequence::{NoMemory, Sequence};
 use std::alloc::Global;
@@ -69,6 +69,7 @@ fn end_of_line(bytes: &[u8], start: usize, newline: usize) -> usize
 /// The lines of a file without their line feed, and without one carriage return before it; a last line may lack its
 /// line feed, and keeps its carriage return then. One pass over the bytes.
 pub fn lines(alloc: Global, bytes: &[u8]) -> Result<Spans, NoMemory>
+    ensures places { IfOk result (λ spans. spans ≡ spans_of bytes.now) }
     ensures text { IfOk result (λ spans. cut_at bytes.now spans ≡ lines_of bytes.now) }
     ensures within { IfOk result (λ spans. All (IsSpanWithin bytes.now) spans) }
 {
@@ -90,4 +91,27 @@ pub fn lines(alloc: Global, bytes: &[u8]) -> Result<Spans, NoMemory>
         })?;
     }
     Ok(found)
+}
+
+/// A line of a file, and its number, from 1.
+#[derive(Clone, Copy, Debug)]
+pub struct NumberedLine<'a> {
+    /// How many lines stand before it, and 1.
+    pub number: u32,
+    /// The line without its line feed.
+    pub text: &'a [u8],
+}
+
+/// The line at a place of a file whose lines stand at `spans`, as `lines` gives them. Takes no memory.
+pub fn numbered_line<'a>(bytes: &'a [u8], spans: &Spans, at: usize) -> NumberedLine<'a>
+    requires lines { cut_at bytes.now spans.now ≡ lines_of bytes.now }
+    requires place { at < length spans.now }
+    requires few { length bytes.now < 2 ^ 32 }
+    ensures number { result.number ≡ at + 1 }
+    ensures text { result.text.now ≡ slice_index_or (lines_of bytes.now) at [] }
+{
+    NumberedLine {
+        number: at as u32 + 1,
+        text: spans.as_slice()[at].of(bytes),
+    }
 }

@@ -1,5 +1,5 @@
 // Paths in form: parts joined by `/`.
-ghost use Rattle.std.specs.Prelude.{◌≡◌, ◌<◌, ◌↔◌, ◌+◌, length, IfOk, OnOk, IsErrOf, nat_eq, slice_index};
+ghost use Rattle.std.specs.Prelude.{◌≡◌, ◌<◌, ◌↔◌, ◌+◌, [], length, take, IfOk, OnOk, IsErrOf, nat_eq, slice_index};
 ghost use Rattle.std.specs.List.{list_all};
 ghost use Rattle.bulk_base.specs.Path.{IsPath, parts, joined, is_below, collides};
 ghost use Rattle.bulk_base.specs.Text.{IsText};
@@ -131,6 +131,33 @@ impl Path {
         ensures form { IsPath self.now }
     {
         self.text.bytes()
+    }
+
+    /// The text that the path is; takes no memory.
+    pub(crate) fn into_text(self) -> Text
+        ensures same { result ≡ self }
+        ensures form { IsPath self }
+    {
+        let Path { text } = self;
+        text
+    }
+
+    /// What every path below this one begins with: its text and a slash.
+    pub(crate) fn with_slash(&self, alloc: Global) -> Result<Text, NoMemory>
+        ensures { IfOk result (λ t. t ≡ joined self.now []) }
+    {
+        let text = self.text.as_str();
+        Ok(Text::from_string(format!(in alloc; "{text}/")?))
+    }
+
+    /// The text of the path's bytes before a slash.
+    pub(crate) fn front(&self, alloc: Global, slash: usize) -> Result<Text, NoMemory>
+        requires text { IsText self.now }
+        requires within { slash < length self.now }
+        requires at { slice_index self.now slash ≡ 47 }
+        ensures { IfOk result (λ t. t ≡ take slash self.now) }
+    {
+        self.text.piece(alloc, 0, slash)
     }
 
     /// Another path with the same bytes.

@@ -10,16 +10,19 @@ ghost use Rattle.bulk_base.specs.Path.{is_below};
 
 use crate::path::{Path, Paths};
 use crate::sequence::{NoMemory, Sequence};
+use crate::text::Text;
 use std::alloc::Global;
 use std::collections::BTreeMap;
 use std::marker::Model;
+use std::ops::Bound;
 
 /// A map from paths to values. Contracts see it as a finite map from the paths' bytes, in byte order.
 ///
 /// A look-up and a change take O(log n) comparisons.
 #[derive(Drop)]
 pub struct PathMap<V> {
-    entries: BTreeMap<Path, V>,
+    // By the paths' texts: a search begins at a folder and its slash, and that is no path.
+    entries: BTreeMap<Text, V>,
 }
 
 impl<V> Model for PathMap<V> {
@@ -34,6 +37,12 @@ impl<V> Model for PathMap<V> {
     ghost coded = { map.code (coded_list coded_ℕ) V.code };
 
     ghost view = { λ m. map.from_entries m.entries.entries };
+
+    ghost use Rattle.std.specs.Prelude.{All};
+    ghost use Rattle.std.specs.BTreeMap as tree;
+    ghost use Rattle.bulk_base.specs.Path.{IsPath};
+
+    ghost invariant = { λ m. All IsPath (tree.keys m.entries) };
 }
 
 impl<V> PathMap<V> {
@@ -50,16 +59,49 @@ impl<V> PathMap<V> {
     pub fn get(&self, key: &Path) -> Option<&V>
         ensures { option_copied result ≡ map.get self.now key.now }
     {
-        self.entries.get(key)
+        self.entries.get(key.text())
     }
 
-    /// Whether a path is a folder of one that has a value, or below one.
-    pub fn has_nested(&self, path: &Path) -> bool
-        ensures { result ≡ list_any (λ other. is_below path.now other || is_below other path.now) (map.keys self.now) }
+    /// Whether a path that has a value stands below a folder. NoMemory for want of memory alone. One look-up.
+    pub fn has_below(&self, alloc: Global, folder: &Path) -> Result<bool, NoMemory>
+        ensures { IfOk result (λ found. found ≡ list_any (is_below folder.now) (map.keys self.now)) }
     {
-        self.entries
-            .keys()
-            .any(|other| other.is_below(path) || path.is_below(other))
+        let start = folder.with_slash(alloc)?;
+        let mut rest = self
+            .entries
+            .range((Bound::Included(&start), Bound::Unbounded));
+        match rest.next() {
+            Some((key, _)) => Ok(key.bytes().starts_with(start.bytes())),
+            None => Ok(false),
+        }
+    }
+
+    fn has_text(&self, text: &Text) -> bool
+        ensures { result ≡ map.contains_key self.now text.now }
+    {
+        self.entries.contains_key(text)
+    }
+
+    // Whether a folder of a path has a value.
+    fn has_above(&self, alloc: Global, path: &Path) -> Result<bool, NoMemory>
+        ensures { IfOk result (λ found. found ≡ list_any (λ other. is_below other path.now) (map.keys self.now)) }
+    {
+        let bytes = path.bytes();
+        for at in 0..bytes.len() {
+            if bytes[at] == b'/' && self.has_text(&path.front(alloc, at)?) {
+                return Ok(true);
+            }
+        }
+        Ok(false)
+    }
+
+    /// Whether a path is a folder of one that has a value, or below one. NoMemory for want of memory alone.
+    ///
+    /// One look-up for each folder of the path, and one for the first path below it.
+    pub fn has_nested(&self, alloc: Global, path: &Path) -> Result<bool, NoMemory>
+        ensures { IfOk result (λ nested. nested ≡ list_any (λ other. is_below path.now other || is_below other path.now) (map.keys self.now)) }
+    {
+        Ok(self.has_below(alloc, path)? || self.has_above(alloc, path)?)
     }
 
     /// All paths that have a value, in byte order, each once.
@@ -69,21 +111,26 @@ impl<V> PathMap<V> {
     {
         let mut keys = Sequence::new(alloc);
         for key in self.entries.keys() {
-            keys.push(key.copy(alloc)?)?;
+            keys.push(Path::of_text(alloc, key)?)?;
         }
         Ok(keys)
     }
 
-    /// The paths below a folder that have a value, in byte order, each once.
+    /// The paths below a folder that have a value, in byte order, each once. One look-up, and the paths that are found.
     pub fn keys_below(&self, alloc: Global, folder: &Path) -> Result<Paths, NoMemory>
         ensures below { IfOk result (λ keys. keys ≡ filter (is_below folder.now) (map.keys self.now)) }
         ensures order { IfOk result (IsStrictlySortedBy (slice_cmp nat_cmp)) }
     {
+        let start = folder.with_slash(alloc)?;
         let mut keys = Sequence::new(alloc);
-        for key in self.entries.keys() {
-            if key.is_below(folder) {
-                keys.push(key.copy(alloc)?)?;
+        for (key, _) in self
+            .entries
+            .range((Bound::Included(&start), Bound::Unbounded))
+        {
+            if !key.bytes().starts_with(start.bytes()) {
+                break;
             }
+            keys.push(Path::of_text(alloc, key)?)?;
         }
         Ok(keys)
     }
@@ -95,7 +142,7 @@ impl<V: Drop> PathMap<V> {
         ensures ok { OnOk result (self.new ≡ map.insert self.old key value) }
         ensures err { OnErr result (self.new ≡ self.old) }
     {
-        self.entries.insert(key, value)?;
+        self.entries.insert(key.into_text(), value)?;
         Ok(())
     }
 
@@ -104,6 +151,6 @@ impl<V: Drop> PathMap<V> {
         ensures found { result ≡ map.contains_key self.old key.now }
         ensures removed { self.new ≡ map.remove self.old key.now }
     {
-        self.entries.remove(key).is_some()
+        self.entries.remove(key.text()).is_some()
     }
 }
