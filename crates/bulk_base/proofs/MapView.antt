@@ -1,9 +1,9 @@
 -- A tree map with texts as keys, read as a finite map.
-use Rattle.std.proofs.Common.{◌≡◌, ℕ, Bool, true, false, List, [], ◌∷◌, ap, subst, sym, ◌∙◌, refl}
+use Rattle.std.proofs.Common.{◌≡◌, ℕ, Bool, true, false, List, [], ◌∷◌, ◌++◌, ap, subst, sym, ◌∙◌, refl}
 use Rattle.std.specs.Prelude.{Some, None, map, cond, ◌&&◌, is_some, T}
 use Rattle.std.specs.declared.cmp.Ordering.{Ordering}
 use Rattle.std.specs.declared.cmp.Ordering.TheVariants.{Less, Equal, Greater}
-use Rattle.std.specs.Ordering.{nat_cmp, is_eq, is_lt, eq_by_cmp}
+use Rattle.std.specs.Ordering.{nat_cmp, is_eq, is_lt, eq_by_cmp, ordering_reverse}
 use Rattle.std.specs.Cmp.{eq_by_cmp_equiv}
 use Rattle.std.specs.Cmp.Lexicographic.{slice_cmp, nat_list_cmp_total}
 use Rattle.std.specs.Map.{lookup}
@@ -11,7 +11,7 @@ use Rattle.std.specs.List.{AllByRecursion}
 use Rattle.std.specs.List.Sorted.{IsStrictlySortedBy}
 use Rattle.std.specs.BTreeMap as tree
 use Rattle.std.specs.FinMap as map
-use Rattle.std.specs.FinMap.{FinMap, IsAntisymmetric, nat_cmp-IsAntisymmetric, slice_cmp-IsAntisymmetric, same_map, get-from_entries, get-insert, get-remove, get-from_sorted, entries-from_sorted, from_entries, from_sorted, entries, get, insert, remove}
+use Rattle.std.specs.FinMap.{FinMap, IsAntisymmetric, nat_cmp-IsAntisymmetric, slice_cmp-IsAntisymmetric, same_map, get-from_entries, get-insert, get-remove, get-from_sorted, entries-from_sorted, from_entries, from_entries_push, from_sorted, entries, get, insert, remove}
 use Rattle.std.specs.FinMap.Entries.{find, is_sorted, below_all}
 
 abbrev pub order : List ℕ → List ℕ → Ordering
@@ -93,3 +93,19 @@ is_sorted-to (e ∷ es) h = (below_all-to e.0 es (both-first (below_all order e.
 
 pub keys_ascend : {X : Type 0} (m : FinMap order X) → IsStrictlySortedBy order (map.keys m)
 keys_ascend m = is_sorted-to (entries m) (map.entries_sorted m)
+
+-- an entry that stands behind others in the keys' order has a key that none of these has
+before_it : {X : Type 0} (done rest : List (List ℕ × X)) (d k : List ℕ) (v : X) → AllByRecursion (λ y. order d y ≡ Less) (map (λ e. e.0) (done ++ (k, v) ∷ rest)) → order d k ≡ Less
+before_it [] rest d k v h = h.0
+before_it (x ∷ done) rest d k v h = before_it done rest d k v h.1
+
+pub none_so_far : {X : Type 0} (done rest : List (List ℕ × X)) (k : List ℕ) (v : X) → IsStrictlySortedBy order (map (λ e. e.0) (done ++ (k, v) ∷ rest)) → find order k done ≡ None
+unfolding IsStrictlySortedBy
+none_so_far [] rest k v h = refl
+none_so_far (x ∷ done) rest k v h =
+    let apart : order k x.0 ≡ Greater = nat_list_cmp_total.antisymm k x.0 ∙ ap ordering_reverse (before_it done rest x.0 k v h.0) in
+    ap (λ o. cond (is_eq o) (Some x.1) (find order k done)) apart ∙ none_so_far done rest k v h.1
+
+-- a map with one more entry behind all
+pub view-push : {X : Type 0} (done rest : List (List ℕ × X)) (k : List ℕ) (v : X) → IsStrictlySortedBy order (map (λ e. e.0) (done ++ (k, v) ∷ rest)) → view (done ++ (k, v) ∷ []) ≡ insert (view done) k v
+view-push done rest k v h = from_entries_push nat_list_cmp_total same_keys done k v (none_so_far done rest k v h)

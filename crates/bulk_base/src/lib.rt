@@ -11,8 +11,6 @@ mod path;
 mod path_map;
 mod place;
 mod sequence;
-#[cfg(test)]
-mod tests;
 mod text;
 mod text_map;
 mod trimming;

@@ -3,7 +3,7 @@ ghost use Rattle.std.specs.Prelude.{◌≡◌, OnOk, OnErr, IfOk};
 ghost use Rattle.std.specs.Option.{option_copied};
 ghost use Rattle.std.specs.FinMap as map;
 
-use crate::sequence::{NoMemory, Sequence};
+use crate::sequence::{Bytes, NoMemory, Sequence};
 use crate::text::{Text, Texts};
 use std::alloc::Global;
 use std::collections::BTreeMap;
@@ -76,5 +76,21 @@ impl<V: Drop> TextMap<V> {
         ensures removed { self.new ≡ map.remove self.old key.now }
     {
         self.entries.remove(key).is_some()
+    }
+}
+
+impl TextMap<Bytes> {
+    /// Another map with copies of the texts and the bytes. Costs their bytes, and O(log n) comparisons for each.
+    pub fn copy(&self, alloc: Global) -> Result<TextMap<Bytes>, NoMemory>
+        ensures { IfOk result (λ copied. copied ≡ self.now) }
+    {
+        let mut copied = TextMap::new(alloc);
+        for (key, bytes) in self.entries.iter() {
+            copied.insert(
+                key.copy(alloc)?,
+                Bytes::from_slice(alloc, bytes.as_slice())?,
+            )?;
+        }
+        Ok(copied)
     }
 }

@@ -1,18 +1,22 @@
 -- What lies below a folder, where no path is a folder of another.
 use Rattle.std.proofs.Common.{◌≡◌, ℕ, ◌+◌, Bool, true, false, List, [], ◌∷◌, ap, subst, sym, ◌∙◌, refl, arith, length, drop, length-append}
-use Rattle.std.specs.Prelude.{cond, not, ◌&&◌, ◌||◌, filter, map, Some, None, bytes_eq}
-use Rattle.std.specs.Cmp.Lexicographic.{nat_list_cmp_total}
+use Rattle.std.specs.Prelude.{cond, not, ◌&&◌, ◌||◌, filter, map, Option, Some, None, is_some, bytes_eq, Contains}
+use Rattle.std.specs.Cmp.{eq_by_cmp_equiv}
+use Rattle.std.specs.Cmp.Lexicographic.{nat_list_cmp_total, texts_ties}
+use Rattle.std.specs.Ordering.{eq_by_cmp}
 use Rattle.std.specs.declared.cmp.Ordering.TheVariants.{Less, Equal, Greater}
 use Rattle.std.specs.List.{list_all, list_any, find}
-use Rattle.std.specs.FinMap.{empty, keys, entries, insert, entries-insert, len-entries, len-empty, put}
+use Rattle.std.specs.FinMap.{empty, get, keys, entries, insert, remove, contains_key, contains_key-keys, get-remove, entries-insert, len-entries, len-empty, put}
 use Rattle.std.specs.FinMap.Entries.{by_order}
 use Rattle.std.proofs.lemmas.List.Kept.{IsStrictlySortedBy-filter}
 use Rattle.std.proofs.lemmas.Bool.{and_from}
+use Rattle.std.proofs.lemmas.Map.Views.{Contains-from_any, list_any-from_Contains}
+use Rattle.std.proofs.lemmas.Slice.Eq.{bytes_eq-Decides}
 use Rattle.bulk_base.specs.Path.{is_below, joined, collides}
 use Rattle.bulk_base.proofs.MapView.{order, keys_ascend}
+use Rattle.bulk_base.proofs.Members.{all_passes, passes_all}
 use Rattle.bulk_base.proofs.Paths.{below_is_joined}
-use Rattle.outside.specs.Contents.{Contents, IsListing, IsFree, has_no_folder, files_below}
-use Rattle.outside.specs.Programs.{can_hold}
+use Rattle.outside.specs.Contents.{Contents, IsListing, IsFree, can_hold, has_no_folder, files_below}
 use Rattle.outside.specs.Given.{is_folder_of, first_folder}
 
 left : (a b : Bool) → (a && b) ≡ true → a ≡ true
@@ -146,3 +150,24 @@ has_no_folder-empty =
 pub is_free-empty : (path : List ℕ) → IsFree path empty
 is_free-empty path =
     subst (λ es. list_all (λ other. not (collides path other)) (map (λ e. e.0) es) ≡ true) (sym (none_of_length (entries {X = List ℕ} {R = order} empty) (sym (len-entries empty) ∙ len-empty order (List ℕ)))) refl
+
+same_text : (a b : List ℕ) → eq_by_cmp order a b ≡ true → a ≡ b
+same_text a b e = (bytes_eq-Decides a b).0 (texts_ties a b ∙ e)
+
+-- where a content has no path that another lacks, none of its paths is a folder of another where that holds of the other
+has_no_folder-fewer : (more fewer : Contents) → ((path : List ℕ) → contains_key fewer path ≡ true → contains_key more path ≡ true) → has_no_folder (keys more) ≡ true → has_no_folder (keys fewer) ≡ true
+has_no_folder-fewer more fewer has apart =
+    let among : (path : List ℕ) → Contains (keys fewer) path → Contains (keys more) path = λ path c.
+    Contains-from_any same_text path (keys more) (sym (contains_key-keys more path) ∙ has path (contains_key-keys fewer path ∙ list_any-from_Contains (eq_by_cmp_equiv nat_list_cmp_total) path (keys fewer) c)) in
+    passes_all (λ folder. list_all (λ path. not (is_below folder path)) (keys fewer)) (keys fewer) (λ folder f.
+    passes_all (λ path. not (is_below folder path)) (keys fewer) (λ path p.
+    all_passes (λ x. not (is_below folder x)) (keys more) path (all_passes (λ x. list_all (λ y. not (is_below x y)) (keys more)) (keys more) folder apart (among folder f)) (among path p)))
+
+-- a removal leaves it so
+pub has_no_folder-remove : (content : Contents) (path : List ℕ) → has_no_folder (keys content) ≡ true → has_no_folder (keys (remove content path)) ≡ true
+has_no_folder-remove content path = has_no_folder-fewer content (remove content path) (λ other h.
+    still (eq_by_cmp order other path) (get content other) (sym (ap is_some (get-remove nat_list_cmp_total content path other)) ∙ h))
+  where
+    still : (b : Bool) (found : Option (List ℕ)) → is_some (cond b None found) ≡ true → is_some found ≡ true
+    still true found h = cc
+    still false found h = h

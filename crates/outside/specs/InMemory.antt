@@ -1,5 +1,5 @@
 -- What contracts see of the objects in memory.
-use Rattle.std.specs.Prelude.{ℕ, List, refl}
+use Rattle.std.specs.Prelude.{ℕ, ◌≤◌, Bool, nat_le, List, [], length, take, Option, Some, None, if◌then◌else◌, refl}
 use Rattle.std.specs.FinMap as map
 use Rattle.std.specs.Coded.{Coded, code_by, coded×, coded_ℕ, coded_list}
 use Rattle.outside.specs.contracts.failure.Fail as fail
@@ -7,7 +7,8 @@ use Rattle.outside.specs.contracts.change.Change as change
 use Rattle.outside.specs.declared.failure.Fail.{Fail}
 use Rattle.outside.specs.declared.change.Change.{Change}
 use Rattle.outside.specs.Contents.{Contents}
-use Rattle.outside.specs.Failures.{Failing}
+use Rattle.outside.specs.Changes.{replayed}
+use Rattle.outside.specs.Failures.{Failing, fresh}
 
 abbrev pub contents_code : Coded Contents
 contents_code = map.code (coded_list coded_ℕ) (coded_list coded_ℕ)
@@ -38,6 +39,10 @@ pub record History : Type 0 where
   pub journal : List Change
   pub content : Contents
 
+-- nothing changed yet
+abbrev pub unchanged : Contents → History
+unchanged content = record { first = content; journal = []; content = content }
+
 abbrev pub history_code : Coded History
 history_code =
     code_by (Contents × (List Change × Contents)) (coded× contents_code (coded× (coded_list change.the_row.coded) contents_code))
@@ -56,13 +61,10 @@ store_code =
     (λ s. (record { first = s.first; journal = s.journal; content = s.content }, s.failing))
     (λ p. record { first = p.0.first; journal = p.0.journal; content = p.0.content; failing = p.1 }) (λ _. refl)
 
--- a room: what its folder holds, the names that were given to clear, and which of its calls fail
-pub record RoomState : Type 0 where
-  pub folder : Contents
-  pub begun : List (List ℕ)
-  pub failing : Failing
+-- a store that holds this and has not changed, none of whose calls fails
+abbrev pub store_of : Contents → StoreState
+store_of content = record { first = content; journal = []; content = content; failing = fresh [] }
 
-abbrev pub room_code : Coded RoomState
-room_code =
-    code_by (Contents × (List (List ℕ) × Failing)) (coded× contents_code (coded× (coded_list (coded_list coded_ℕ)) failing_code))
-    (λ r. (r.folder, (r.begun, r.failing))) (λ p. record { folder = p.0; begun = p.1.0; failing = p.1.1 }) (λ _. refl)
+-- the store that a stop behind so many changes leaves; none, where fewer were made
+abbrev pub stopped : StoreState → ℕ → Option StoreState
+stopped store changes = if nat_le changes (length store.journal) then Some (store_of (replayed (take changes store.journal) store.first)) else None

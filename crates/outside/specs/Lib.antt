@@ -7,4 +7,3 @@ pub mod Given
 pub mod Errors
 pub mod InMemory
 pub mod Kept
-pub mod Programs

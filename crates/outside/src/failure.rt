@@ -40,11 +40,11 @@ pub struct Fail {
 /// A list of calls that fail.
 pub type Fails = Sequence<Fail>;
 
-/// The calls of an object that are planned to fail, how many of each kind there were, and how many failed.
+/// The calls of an object in memory that are planned to fail, how many of each kind there were, and how many failed.
 ///
 /// The counts stand still at the last value of 64 bits. Where no call is planned to fail, none failed.
 #[derive(Debug, Drop)]
-pub(crate) struct Failures {
+pub struct Failures {
     planned: Fails,
     calls: [u64; 9],
     faults: u64,
@@ -88,7 +88,7 @@ fn is_planned(planned: &Fails, place: usize, number: u64) -> bool
 
 impl Failures {
     /// These calls are planned to fail; none was made.
-    pub(crate) fn new(planned: Fails) -> Failures
+    pub fn new(planned: Fails) -> Failures
         ensures { result ≡ fresh planned }
     {
         Failures {
@@ -98,8 +98,15 @@ impl Failures {
         }
     }
 
+    /// The calls that are planned to fail.
+    pub fn planned(&self) -> &[Fail]
+        ensures { result.now ≡ self.now.planned }
+    {
+        self.planned.as_slice()
+    }
+
     /// Counts a call of a kind, and says whether it fails.
-    pub(crate) fn fails(&mut self, call: CallKind) -> bool
+    pub fn fails(&mut self, call: CallKind) -> bool
         ensures planned { result ≡ fails_next call self.old }
         ensures counted { self.new ≡ counted call self.old }
         ensures small { self.old.faults < 2 ^ 64 }
@@ -115,7 +122,7 @@ impl Failures {
     }
 
     /// How many calls failed: none where none was planned to.
-    pub(crate) fn faults(&self) -> u64
+    pub fn faults(&self) -> u64
         ensures count { result ≡ self.now.faults }
         ensures none { self.now.planned ≡ [] → result ≡ 0 }
     {

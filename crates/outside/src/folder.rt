@@ -1,10 +1,9 @@
 // Files in memory, none of their paths a folder of another.
 ghost use Rattle.std.specs.Prelude.{◌≡◌, ◌≤◌, IsTrue, IfOk, IfErr, IfSome, OnOk, OnErr, Some, None, take, vec_len};
 ghost use Rattle.std.specs.Option.{option_map, option_copied};
-ghost use Rattle.std.specs.FinMap.{empty, get, insert, keys};
-ghost use Rattle.outside.specs.Contents.{IsListing, files_below, first_bytes};
+ghost use Rattle.std.specs.FinMap.{empty, get, insert, remove, contains_key, keys};
+ghost use Rattle.outside.specs.Contents.{IsListing, can_hold, files_below, first_bytes};
 ghost use Rattle.outside.specs.Given.{content_of, first_folder};
-ghost use Rattle.outside.specs.Programs.{can_hold};
 ghost use Rattle.outside.specs.Errors.{IfNotFolder};
 
 use crate::mem_error::MemError;
@@ -12,9 +11,10 @@ use bulk_base::{Bytes, FileItem, Files, NoMemory, Path, PathMap, Paths};
 use std::alloc::Global;
 use std::marker::Model;
 
-/// Files in memory, none of their paths a folder of another. Contracts see their content.
+/// Files in memory, none of their paths a folder of another, for objects in memory that hold files at paths. Contracts
+/// see their content.
 #[derive(Drop)]
-pub(crate) struct Folder {
+pub struct Folder {
     files: PathMap<Bytes>,
 }
 
@@ -46,21 +46,25 @@ fn collected(alloc: Global, files: Files) -> Result<PathMap<Bytes>, NoMemory>
     Ok(content)
 }
 
-fn is_folder_of(paths: &Paths, folder: &Path) -> bool
-    ensures { result ≡ Rattle.outside.specs.Given.is_folder_of paths.now folder.now }
+// The first of all paths of files that is a folder of another.
+fn least_folder<'a>(
+    alloc: Global,
+    files: &PathMap<Bytes>,
+    paths: &'a Paths,
+) -> Result<Option<&'a Path>, NoMemory>
+    requires { paths.now ≡ keys files.now }
+    ensures { IfOk result (λ found. option_copied found ≡ first_folder paths.now) }
 {
-    paths.iter().any(|path| path.is_below(folder))
-}
-
-// The first path that is a folder of another.
-fn least_folder(paths: &Paths) -> Option<&Path>
-    ensures { option_copied result ≡ first_folder paths.now }
-{
-    paths.iter().find(|folder| is_folder_of(paths, folder))
+    for path in paths.as_slice() {
+        if files.has_below(alloc, path)? {
+            return Ok(Some(path));
+        }
+    }
+    Ok(None)
 }
 
 /// The first `most` bytes.
-pub(crate) fn front(alloc: Global, bytes: &[u8], most: u64) -> Result<Vec<u8>, NoMemory>
+pub fn front(alloc: Global, bytes: &[u8], most: u64) -> Result<Vec<u8>, NoMemory>
     ensures { IfOk result (λ front. front.items ≡ take most bytes.now) }
 {
     let most = most.min(bytes.len() as u64) as usize;
@@ -69,15 +73,16 @@ pub(crate) fn front(alloc: Global, bytes: &[u8], most: u64) -> Result<Vec<u8>, N
 
 impl Folder {
     /// The files handed in, of equal paths the last. NotFolder exactly where one path is a folder of another, with
-    /// the least such folder.
-    pub(crate) fn from_files(alloc: Global, files: Files) -> Result<Folder, MemError>
+    /// the least such folder. O(log n) comparisons for each of n files.
+    pub fn from_files(alloc: Global, files: Files) -> Result<Folder, MemError>
         ensures content { IfOk result (λ folder. folder ≡ content_of files) }
         ensures apart { OnOk result (first_folder (keys (content_of files)) ≡ None) }
         ensures not_folder { IfErr result (IfNotFolder (λ path. first_folder (keys (content_of files)) ≡ Some path)) }
     {
         let files = collected(alloc, files)?;
         let paths = files.keys(alloc)?;
-        match least_folder(&paths) {
+        let nested = least_folder(alloc, &files, &paths)?;
+        match nested {
             Some(path) => Err(MemError::NotFolder {
                 path: path.copy(alloc)?,
             }),
@@ -86,7 +91,7 @@ impl Folder {
     }
 
     /// A folder without files; takes no memory.
-    pub(crate) fn new(alloc: Global) -> Folder
+    pub fn new(alloc: Global) -> Folder
         ensures { result ≡ empty }
     {
         Folder {
@@ -94,15 +99,16 @@ impl Folder {
         }
     }
 
-    /// Whether a file can stand at a path: none stands below it, and none of its folders is a file.
-    pub(crate) fn can_hold(&self, path: &Path) -> bool
-        ensures { result ≡ can_hold path.now self.now }
+    /// Whether a file can stand at a path: none stands below it, and none of its folders is a file. A look-up for each
+    /// folder of the path.
+    pub fn can_hold(&self, alloc: Global, path: &Path) -> Result<bool, NoMemory>
+        ensures { IfOk result (λ can. can ≡ can_hold path.now self.now) }
     {
-        !self.files.has_nested(path)
+        Ok(!self.files.has_nested(alloc, path)?)
     }
 
     /// Puts a file at a path, in place of the one that was there. On an error nothing changed.
-    pub(crate) fn put(&mut self, path: Path, bytes: Bytes) -> Result<(), NoMemory>
+    pub fn put(&mut self, path: Path, bytes: Bytes) -> Result<(), NoMemory>
         requires { IsTrue (can_hold path self.old) }
         ensures ok { OnOk result (self.new ≡ insert self.old path bytes) }
         ensures err { OnErr result (self.new ≡ self.old) }
@@ -111,15 +117,23 @@ impl Folder {
         Ok(())
     }
 
+    /// Takes a file away, and says whether it was there.
+    pub fn remove(&mut self, file: &Path) -> bool
+        ensures found { result ≡ contains_key self.old file.now }
+        ensures removed { self.new ≡ remove self.old file.now }
+    {
+        self.files.remove(file)
+    }
+
     /// What a file holds; None where there is no such file.
-    pub(crate) fn get(&self, file: &Path) -> Option<&Bytes>
+    pub fn get(&self, file: &Path) -> Option<&Bytes>
         ensures { option_copied result ≡ get self.now file.now }
     {
         self.files.get(file)
     }
 
-    /// The paths below a folder, in byte order.
-    pub(crate) fn names(&self, alloc: Global, below: &Path) -> Result<Paths, NoMemory>
+    /// The paths below a folder, in byte order. One look-up, and the paths that are found.
+    pub fn names(&self, alloc: Global, below: &Path) -> Result<Paths, NoMemory>
         ensures listing { IfOk result (IsListing below.now) }
         ensures told { IfOk result (λ paths. paths ≡ files_below below.now self.now) }
     {
@@ -128,7 +142,7 @@ impl Folder {
     }
 
     /// The first `most` bytes of a file; None where there is no such file.
-    pub(crate) fn first_bytes(
+    pub fn first_bytes(
         &self,
         alloc: Global,
         file: &Path,

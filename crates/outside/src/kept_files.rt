@@ -1,10 +1,11 @@
 // Files under names in memory, with the changes that led to them.
-ghost use Rattle.std.specs.Prelude.{◌≡◌, ◌≤◌, [], IfOk, IfSome, OnOk, OnErr, vec_len};
+ghost use Rattle.std.specs.Prelude.{◌≡◌, ◌≤◌, length, take, IfOk, IfSome, OnOk, OnErr, vec_len};
 ghost use Rattle.std.specs.Option.{option_map};
 ghost use Rattle.std.specs.FinMap.{keys};
 ghost use Rattle.outside.specs.Contents.{IsAscending, first_bytes};
 ghost use Rattle.outside.specs.Given.{content_of_items};
-ghost use Rattle.outside.specs.Changes.{TookEffect, replayed};
+ghost use Rattle.outside.specs.Changes.{TookEffect, changed, replayed};
+ghost use Rattle.outside.specs.InMemory.{unchanged};
 ghost use Rattle.outside.specs.Kept.{WasRemoved};
 ghost use Rattle.outside.specs.declared.change.Change.TheVariants.{Put as ToPut};
 
@@ -52,10 +53,26 @@ fn copied(alloc: Global, items: &Items) -> Result<TextMap<Bytes>, NoMemory>
     Ok(content)
 }
 
+// Makes a change.
+fn make_change(alloc: Global, files: &mut TextMap<Bytes>, change: &Change) -> Result<(), NoMemory>
+    ensures { OnOk result (files.new ≡ changed change.now files.old) }
+{
+    match change {
+        Change::Put { name, bytes } => {
+            let bytes = Bytes::from_slice(alloc, bytes.as_slice())?;
+            files.insert(name.copy(alloc)?, bytes)?;
+        }
+        Change::Remove { name } => {
+            files.remove(name);
+        }
+    }
+    Ok(())
+}
+
 impl KeptFiles {
     /// The files handed in, of equal names the last, and no change yet.
     pub(crate) fn from_items(alloc: Global, items: Items) -> Result<KeptFiles, NoMemory>
-        ensures { IfOk result (λ kept. kept ≡ record { first = content_of_items items; journal = []; content = content_of_items items }) }
+        ensures { IfOk result (λ kept. kept ≡ unchanged (content_of_items items)) }
     {
         Ok(KeptFiles {
             first: copied(alloc, &items)?,
@@ -70,6 +87,22 @@ impl KeptFiles {
         ensures replays { self.now.content ≡ replayed self.now.journal self.now.first }
     {
         self.changes.as_slice()
+    }
+
+    /// The files after so many of the changes, with no change since. So many changes were made.
+    pub(crate) fn after(&self, alloc: Global, changes: usize) -> Result<KeptFiles, NoMemory>
+        requires { changes ≤ length self.now.journal }
+        ensures { IfOk result (λ kept. kept ≡ unchanged (replayed (take changes self.now.journal) self.now.first)) }
+    {
+        let mut files = self.first.copy(alloc)?;
+        for change in &self.changes.as_slice()[..changes] {
+            make_change(alloc, &mut files, change)?;
+        }
+        Ok(KeptFiles {
+            first: files.copy(alloc)?,
+            changes: Vec::new(alloc),
+            files,
+        })
     }
 
     /// All names, in byte order, each once.

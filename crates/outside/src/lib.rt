@@ -1,5 +1,5 @@
 //! What the builder meets outside: a ports tree, a package store, rooms to build in and a sink for text, as traits
-//! with a written meaning, and an object in memory for each.
+//! with a written meaning, and an object in memory for each but the room, with the parts that such objects are made of.
 #![tactic(auto)]
 
 mod change;
@@ -9,12 +9,10 @@ mod gate;
 mod item;
 mod kept_files;
 mod mem_error;
-mod mem_room;
 mod mem_sink;
 mod mem_store;
 mod mem_tree;
 mod outer;
-mod program;
 mod room;
 mod sink;
 mod store;
@@ -22,11 +20,11 @@ mod tree;
 mod ways;
 
 pub use change::Change;
-pub use failure::{CallKind, Fail, Fails};
-pub use gate::{Gate, OpenGate};
+pub use failure::{CallKind, Fail, Fails, Failures};
+pub use folder::Folder;
+pub use gate::{Gate, MeetGate, OpenGate};
 pub use item::{Item, Items};
 pub use mem_error::MemError;
-pub use mem_room::{MemRoom, MemWays};
 pub use mem_sink::MemSink;
 pub use mem_store::MemStore;
 pub use mem_tree::MemTree;
@@ -36,6 +34,3 @@ pub use sink::Sink;
 pub use store::Store;
 pub use tree::Tree;
 pub use ways::{Untold, Ways};
-
-#[cfg(test)]
-mod tests;

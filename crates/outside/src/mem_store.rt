@@ -5,6 +5,7 @@ ghost use Rattle.std.specs.FinMap.{keys};
 ghost use Rattle.outside.specs.Contents.{IsAscending, first_bytes};
 ghost use Rattle.outside.specs.Changes.{Made, Removed, IsUnchanged, replayed};
 ghost use Rattle.outside.specs.Given.{content_of_items};
+ghost use Rattle.outside.specs.InMemory.{stopped};
 ghost use Rattle.outside.specs.Failures.{fresh, fails_next, counted};
 ghost use Rattle.outside.specs.Faults.{HasCause};
 ghost use Rattle.outside.specs.declared.change.Change.TheVariants.{Put as ToPut};
@@ -15,7 +16,7 @@ use crate::item::Items;
 use crate::kept_files::KeptFiles;
 use crate::outer::Outer;
 use crate::store::Store;
-use bulk_base::{NoMemory, Text, Texts};
+use bulk_base::{NoMemory, Sequence, Text, Texts};
 use std::alloc::Global;
 use std::marker::Model;
 
@@ -54,6 +55,21 @@ impl MemStore {
         ensures replays { self.now.content ≡ replayed self.now.journal self.now.first }
     {
         self.kept.changes()
+    }
+
+    /// The store that a stop behind so many changes leaves: its content is the one behind these, its journal is empty,
+    /// and none of its calls fails. None exactly where fewer changes were made since this store was made. NoMemory for
+    /// want of memory alone. Costs a copy of the store, and O(log n) comparisons for each change.
+    pub fn stopped(&self, alloc: Global, changes: u64) -> Result<Option<MemStore>, NoMemory>
+        ensures { IfOk result (λ store. store ≡ stopped self.now changes) }
+    {
+        if changes > self.kept.changes().len() as u64 {
+            return Ok(None);
+        }
+        Ok(Some(MemStore {
+            kept: self.kept.after(alloc, changes as usize)?,
+            failures: Failures::new(Sequence::new(alloc)),
+        }))
     }
 
     /// How many calls failed: none where none was planned to.

@@ -65,3 +65,34 @@ pub trait Room {
         ensures begun { begun self.new ≡ begun self.old }
         ensures cause { HasCause (faults self.old) (faults self.new) result };
 }
+
+/// A room that is lent is a room.
+impl<R: Room> Room for &mut R {
+    type Ways = R::Ways;
+
+    ghost folder = { λ room. R.folder room.now };
+
+    ghost begun = { λ room. R.begun room.now };
+
+    ghost faults = { λ room. R.faults room.now };
+
+    fn clear(&mut self, alloc: Global, name: &Text) -> Result<(), Outer> {
+        R::clear(&mut **self, alloc, name)
+    }
+
+    fn put(&mut self, alloc: Global, path: &Path, bytes: &[u8]) -> Result<(), Outer> {
+        R::put(&mut **self, alloc, path, bytes)
+    }
+
+    fn run(&mut self, alloc: Global, words: &[Text]) -> Result<u8, Outer> {
+        R::run(&mut **self, alloc, words)
+    }
+
+    fn names(&mut self, alloc: Global, below: &Path) -> Result<Paths, Outer> {
+        R::names(&mut **self, alloc, below)
+    }
+
+    fn take(&mut self, alloc: Global, file: &Path, most: u64) -> Result<Option<Vec<u8>>, Outer> {
+        R::take(&mut **self, alloc, file, most)
+    }
+}

@@ -1,7 +1,6 @@
 use Rattle.std.proofs.Common.{◌≡◌, true, subst, sym}
 use Rattle.std.specs.FinMap.{keys}
-use Rattle.outside.specs.Contents.{has_no_folder}
-use Rattle.outside.specs.Programs.{can_hold}
+use Rattle.outside.specs.Contents.{can_hold, has_no_folder}
 use Rattle.outside.proofs.Listings.{has_no_folder-insert}
 use Rattle.outside.proofs.folder.Folder.put.Goals as goal
 

@@ -4,11 +4,7 @@ use Rattle.std.specs.List.{list_any, flat_map}
 use Rattle.std.specs.FinMap.{get, insert, keys}
 use Rattle.bulk_base.specs.Path.{is_path, is_below}
 use Rattle.bulk_base.specs.Number.{number_of}
-use Rattle.outside.specs.Contents.{Contents, files_below}
-
--- whether a file can stand at a path: none stands below it, and none of its folders is a file
-abbrev pub can_hold : List ℕ → Contents → Bool
-can_hold path folder = not (list_any (λ other. is_below path other || is_below other path) (keys folder))
+use Rattle.outside.specs.Contents.{Contents, can_hold, files_below}
 
 -- writes a file, in place of one that was there: 2 where the path is none, 1 where no file can stand at it
 abbrev pub written : List ℕ → List ℕ → Contents → ℕ × Contents

@@ -1,11 +1,11 @@
 // The programs that rooms in memory know.
 ghost use Rattle.std.specs.Prelude.{◌≡◌, if◌then◌else◌, IfOk, Some, None};
-ghost use Rattle.outside.specs.Programs.{mem_runs, written, copied, EndsWith};
+ghost use Rattle.tiny_shell.specs.Programs.{mem_runs, written, copied, EndsWith};
 ghost use Rattle.std.specs.FinMap.{get};
 ghost use Rattle.bulk_base.specs.Path.{is_path};
 
-use crate::folder::Folder;
 use bulk_base::{Bytes, NoMemory, Path, PathError, Paths, Text, number};
+use outside::Folder;
 use std::alloc::{AllocError, Global};
 
 // The status where the arguments are wrong.
@@ -32,7 +32,7 @@ fn write(folder: &mut Folder, alloc: Global, path: &Text, bytes: Bytes) -> Resul
     let Some(path) = path_of(alloc, path)? else {
         return Ok(WRONG);
     };
-    if !folder.can_hold(&path) {
+    if !folder.can_hold(alloc, &path)? {
         return Ok(1);
     }
     folder.put(path, bytes)?;
@@ -40,19 +40,19 @@ fn write(folder: &mut Folder, alloc: Global, path: &Text, bytes: Bytes) -> Resul
 }
 
 fn true_status(arguments: &[Text]) -> u8
-    ensures { result ≡ Rattle.outside.specs.Programs.true_status arguments.now }
+    ensures { result ≡ Rattle.tiny_shell.specs.Programs.true_status arguments.now }
 {
     if arguments.is_empty() { 0 } else { WRONG }
 }
 
 fn false_status(arguments: &[Text]) -> u8
-    ensures { result ≡ Rattle.outside.specs.Programs.false_status arguments.now }
+    ensures { result ≡ Rattle.tiny_shell.specs.Programs.false_status arguments.now }
 {
     if arguments.is_empty() { 1 } else { WRONG }
 }
 
 fn exit_status(arguments: &[Text]) -> u8
-    ensures { result ≡ Rattle.outside.specs.Programs.exit_status arguments.now }
+    ensures { result ≡ Rattle.tiny_shell.specs.Programs.exit_status arguments.now }
 {
     let [status] = arguments else {
         return WRONG;
@@ -65,7 +65,7 @@ fn exit_status(arguments: &[Text]) -> u8
 
 // The words with a space between, and a line feed.
 fn line_of(alloc: Global, first: &Text, rest: &[Text]) -> Result<Bytes, NoMemory>
-    ensures { IfOk result (λ line. line ≡ Rattle.outside.specs.Programs.line_of first.now rest.now) }
+    ensures { IfOk result (λ line. line ≡ Rattle.tiny_shell.specs.Programs.line_of first.now rest.now) }
 {
     let mut line = Vec::from_slice(alloc, first.bytes())?;
     for word in rest {
@@ -77,7 +77,7 @@ fn line_of(alloc: Global, first: &Text, rest: &[Text]) -> Result<Bytes, NoMemory
 }
 
 fn run_put(folder: &mut Folder, alloc: Global, arguments: &[Text]) -> Result<u8, NoMemory>
-    ensures { EndsWith (Rattle.outside.specs.Programs.run_put arguments.now folder.old) folder.old folder.new result }
+    ensures { EndsWith (Rattle.tiny_shell.specs.Programs.run_put arguments.now folder.old) folder.old folder.new result }
 {
     let [path, first, rest @ ..] = arguments else {
         return Ok(WRONG);
@@ -98,7 +98,7 @@ fn copy_file(folder: &mut Folder, alloc: Global, from: &Path, to: &Text) -> Resu
 }
 
 fn run_cp(folder: &mut Folder, alloc: Global, arguments: &[Text]) -> Result<u8, NoMemory>
-    ensures { EndsWith (Rattle.outside.specs.Programs.run_cp arguments.now folder.old) folder.old folder.new result }
+    ensures { EndsWith (Rattle.tiny_shell.specs.Programs.run_cp arguments.now folder.old) folder.old folder.new result }
 {
     let [from, to] = arguments else {
         return Ok(WRONG);
@@ -114,7 +114,7 @@ fn run_cp(folder: &mut Folder, alloc: Global, arguments: &[Text]) -> Result<u8, 
 
 // Paths, each with a line feed.
 fn listed(alloc: Global, paths: &Paths) -> Result<Bytes, NoMemory>
-    ensures { IfOk result (λ list. list ≡ Rattle.outside.specs.Programs.listed paths.now) }
+    ensures { IfOk result (λ list. list ≡ Rattle.tiny_shell.specs.Programs.listed paths.now) }
 {
     let mut list = Vec::new(alloc);
     for path in paths.as_slice() {
@@ -125,7 +125,7 @@ fn listed(alloc: Global, paths: &Paths) -> Result<Bytes, NoMemory>
 }
 
 fn run_list(folder: &mut Folder, alloc: Global, arguments: &[Text]) -> Result<u8, NoMemory>
-    ensures { EndsWith (Rattle.outside.specs.Programs.run_list arguments.now folder.old) folder.old folder.new result }
+    ensures { EndsWith (Rattle.tiny_shell.specs.Programs.run_list arguments.now folder.old) folder.old folder.new result }
 {
     let [to, below] = arguments else {
         return Ok(WRONG);

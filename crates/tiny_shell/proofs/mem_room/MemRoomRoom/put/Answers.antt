@@ -1,8 +1,8 @@
 use Rattle.std.proofs.Common.{subst, sym}
 use Rattle.outside.specs.Contents.{IsFree}
-use Rattle.outside.specs.InMemory.{RoomState}
+use Rattle.tiny_shell.specs.RoomState.{RoomState}
 use Rattle.outside.proofs.Listings.{can_hold-from_free}
-use Rattle.outside.proofs.mem_room.MemRoomRoom.put.Goals as goal
+use Rattle.tiny_shell.proofs.mem_room.MemRoomRoom.put.Goals as goal
 
 pub put-requires : goal.put-requires
 put-requires c =

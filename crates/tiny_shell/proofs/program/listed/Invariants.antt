@@ -1,6 +1,6 @@
 use Rattle.std.proofs.Common.{◌≡◌, ◌++◌, drop}
-use Rattle.outside.specs.Programs.{listed}
-use Rattle.outside.proofs.program.listed.Given as goal
+use Rattle.tiny_shell.specs.Programs.{listed}
+use Rattle.tiny_shell.proofs.program.listed.Given as goal
 
 abbrev pub invariant-loop-path : goal.invariant-loop-path
 invariant-loop-path l = l.list.items ++ listed (drop l.path-index l.paths) ≡ listed l.paths

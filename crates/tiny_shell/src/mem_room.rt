@@ -6,15 +6,11 @@ ghost use Rattle.outside.specs.Contents.{IsListing, IsFree, files_below, first_b
 ghost use Rattle.outside.specs.Outcomes.{GrewByAtMost};
 ghost use Rattle.outside.specs.Failures.{fresh, fails_next, counted};
 ghost use Rattle.outside.specs.Faults.{HasCause};
-ghost use Rattle.outside.specs.Programs.{mem_runs};
+ghost use Rattle.tiny_shell.specs.Programs.{mem_runs};
 
-use crate::failure::{CallKind, Fails, Failures};
-use crate::folder::Folder;
-use crate::outer::Outer;
 use crate::program;
-use crate::room::Room;
-use crate::ways::Ways;
 use bulk_base::{Bytes, NoMemory, Path, Paths, Sequence, Text, Texts};
+use outside::{CallKind, Fails, Failures, Folder, Outer, Room, Ways};
 use std::alloc::Global;
 use std::marker::Model;
 
@@ -37,7 +33,7 @@ pub struct MemRoom {
 }
 
 impl Model for MemRoom {
-    ghost use Rattle.outside.specs.InMemory.{RoomState, room_code};
+    ghost use Rattle.tiny_shell.specs.RoomState.{RoomState, room_code};
 
     ghost Value = { RoomState };
 
