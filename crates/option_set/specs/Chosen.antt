@@ -24,11 +24,13 @@ abbrev pub unless : {A : Type 0} → Option OptionError → A → Result A Optio
 unless None a = Ok a
 unless (Some refusal) a = Err refusal
 
--- these options with their states, or the first refusal of those that are on
+-- options with their states where these are on, or the first refusal of them
+abbrev pub decided : Vars → Defining → List (List ℕ) → List (List ℕ) → Result (List Switch) OptionError
+decided vars d options on = unless (state_refused vars d on) (switches options on)
+
+-- options with their states, or the first refusal of those that are on
 abbrev pub settled : Vars → Layers → Defining → List (List ℕ) → Result (List Switch) OptionError
-settled vars layers d options =
-    let on = on_in vars options layers in
-    unless (state_refused vars d on) (switches options on)
+settled vars layers d options = decided vars d options (on_in vars options layers)
 
 -- the options that are defined with their states, or the first refusal
 abbrev pub chosen_of : Vars → Layers → Defining → Result (List Switch) OptionError

@@ -56,6 +56,23 @@ fn switches(alloc: Global, options: &[Text], on: &Listed) -> Result<Switches, No
     Ok(found)
 }
 
+/// Options with their states where these are on, or the first refusal of them.
+fn decide(
+    alloc: Global,
+    vars: &Vars,
+    defining: &Defining,
+    options: &[Text],
+    on: &Listed,
+) -> Result<Switches, OptionError>
+    ensures ok { IfOk result (λ switches. of.decided vars.now defining.now options.now on.now ≡ Ok switches) }
+    ensures refused { IfErr result (λ e. e ≢ OptionError.NoMemory → of.decided vars.now defining.now options.now on.now ≡ Err e) }
+{
+    if let Some(refusal) = state_refused(alloc, vars, defining, on)? {
+        return Err(refusal);
+    }
+    Ok(switches(alloc, options, on)?)
+}
+
 /// Options with their states, or the first refusal of those that are on.
 fn settle(
     alloc: Global,
@@ -68,10 +85,7 @@ fn settle(
     ensures refused { IfErr result (λ e. e ≢ OptionError.NoMemory → of.settled vars.now layers.now defining.now options.now ≡ Err e) }
 {
     let on = Listed::new(alloc, options_on(alloc, vars, options.names(), layers)?)?;
-    if let Some(refusal) = state_refused(alloc, vars, defining, &on)? {
-        return Err(refusal);
-    }
-    Ok(switches(alloc, options.as_slice(), &on)?)
+    decide(alloc, vars, defining, options.as_slice(), &on)
 }
 
 /// The options that are defined with their states, or the first refusal.
