@@ -1,18 +1,19 @@
 -- What is installed, by the rounds that the loop makes.
-use Rattle.std.proofs.Common.{◌≡◌, ℕ, zero, suc, ◌<◌, Bool, true, List, [], ◌∷◌, length, get_or, refl, ap, sym, subst, ◌∙◌, arith}
-use Rattle.std.specs.Prelude.{◌==◌, ◌||◌, ◌&&◌, filter, nat_lt}
-use Rattle.std.specs.List.{list_any, list_all, range_with_len}
-use Rattle.std.proofs.lemmas.Bool.{eq-eqb, eqb-true, ltb-true}
-use Rattle.std.proofs.lemmas.List.{get_or_default, get_or-map, length-map}
-use Rattle.std.proofs.lemmas.List.Sums.{AllPass-from_list_all}
+use Rattle.std.proofs.Common.{◌≡◌, ℕ, zero, suc, ◌<◌, Bool, List, [], ◌∷◌, length, refl, ap, sym, subst, ◌∙◌}
+use Rattle.std.specs.Prelude.{◌==◌, ◌||◌, ◌&&◌, filter}
+use Rattle.std.specs.List.{list_any, range_with_len, All}
+use Rattle.std.proofs.lemmas.Bool.{eq-eqb, eqb-true}
+use Rattle.std.proofs.lemmas.List.{get_or_default}
+use Rattle.std.proofs.lemmas.List.Elements.{All-filter}
 use Rattle.bulk_model.specs.declared.plan.Edge.{Edge}
-use Rattle.bulk_model.specs.PlanView.{PlanView, nodes, depends}
+use Rattle.bulk_model.specs.PlanView.{PlanView, nodes, edges_from, depends}
 use Rattle.bulk_model.specs.PlanFacts.{IsPlan}
 use Rattle.bulk_model.specs.Installs.{later_depends, is_installed, installs}
+use Rattle.bulk_model.proofs.PlanEdges.{edges_within}
 use Rattle.dep_graph.specs.Graphs.{has, IsWithin}
 use Rattle.dep_graph.specs.Reached.{is_reached}
 use Rattle.dep_graph.specs.Found.{FoundView, Spreads, with_nodes}
-use Rattle.dep_graph.proofs.Members.{same_bool, has-range, has_from_place, all_has, filter_agree_below}
+use Rattle.dep_graph.proofs.Members.{same_bool, all_from_has, below-range, filter_agree_below}
 use Rattle.dep_graph.proofs.Extending.{extended}
 
 pub eq_turned : (a b : ℕ) → (a == b) ≡ (b == a)
@@ -50,22 +51,13 @@ module _ (plan : PlanView) (n count : ℕ) (start after : FoundView) (size : cou
       ∙ sym (installed_is plan n (length plan.jobs) d))
 
 -- the edges of a plan go to its nodes
-target_at : (plan : PlanView) → IsPlan plan → (n d : ℕ) → n < length plan.jobs → has (depends plan n) d ≡ true → d < length plan.jobs
-target_at plan p n d l h =
-    let all : list_all (λ to. nat_lt to (length plan.jobs)) (depends plan n) ≡ true =
-    all_has (λ m. list_all (λ to. nat_lt to (length plan.jobs)) (depends plan m) ≡ true) (nodes plan) n
-    (AllPass-from_list_all (λ m. list_all (λ to. nat_lt to (length plan.jobs)) (depends plan m)) (nodes plan) p.targets) (has-range (length plan.jobs) n l) in
-    ltb-true d (length plan.jobs) (all_has (λ to. nat_lt to (length plan.jobs) ≡ true) (depends plan n) d (AllPass-from_list_all (λ to. nat_lt to (length plan.jobs)) (depends plan n) all) h)
-
 pub plan_within : (plan : PlanView) → IsPlan plan → IsWithin (length plan.edges) plan.edges
-plan_within plan p n d l i e h =
-    let same : get_or plan.edges n d ≡ get_or plan.edges n [] = get_or_default plan.edges n d [] l in
-    let within : i < length (get_or plan.edges n []) = subst (λ edges. i < length edges) same h in
-    let node : n < length plan.jobs = (let size : length plan.edges ≡ length plan.jobs = p.edges in omega arith) in
-    let member : has (depends plan n) (get_or (get_or plan.edges n []) i e).to ≡ true =
-    has_from_place (depends plan n) (get_or (get_or plan.edges n []) i e).to i
-    (let size : length (depends plan n) ≡ length (get_or plan.edges n []) = length-map (get_or plan.edges n []) (λ (edge : Edge). edge.to) in omega arith)
-    (get_or-map (λ (edge : Edge). edge.to) (get_or plan.edges n []) i e 0 within) in
-    subst (λ edges. (get_or edges i e).to < length plan.edges) (sym same)
-    (let below : (get_or (get_or plan.edges n []) i e).to < length plan.jobs = target_at plan p n (get_or (get_or plan.edges n []) i e).to node member in
-    let size : length plan.edges ≡ length plan.jobs = p.edges in omega arith)
+plan_within plan p n d l =
+    subst (λ edges. All (λ (e : Edge). e.to < length plan.edges) edges) (sym (get_or_default plan.edges n d [] l))
+    (subst (λ count. All (λ (e : Edge). e.to < count) (edges_from plan n)) (sym p.edges) (edges_within plan p n (subst (λ count. n < count) p.edges l)))
+
+-- what is installed are nodes
+pub installed_below : (plan : PlanView) (n : ℕ) → All (λ d. d < length plan.jobs) (installs plan n)
+installed_below plan n =
+    All-filter (is_installed plan (length plan.jobs) n) (λ d. d < length plan.jobs) (nodes plan)
+    (all_from_has (λ d. d < length plan.jobs) (nodes plan) (λ d h. below-range (length plan.jobs) d h))

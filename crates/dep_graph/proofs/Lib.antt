@@ -6,6 +6,7 @@ pub mod Rounds
 pub mod Spreading
 pub mod Reaching
 pub mod Installing
+pub mod Sorting
 pub mod Turning
 pub mod Waiting
 pub mod Turns

@@ -11,19 +11,16 @@ use Rattle.std.proofs.lemmas.List.Elements.{All-push, All-nil}
 use Rattle.std.proofs.lemmas.Map.Keys.{IsDistinct-push, IsDistinct-from_apart}
 use Rattle.std.proofs.lemmas.Map.Steps.{le-length_from_below}
 use Rattle.bulk_model.specs.declared.plan.Edge.{Edge}
-use Rattle.dep_graph.specs.Graphs.{has, edges_at, targets, depends_at, nodes_of, IsWithin}
+use Rattle.dep_graph.specs.Graphs.{has, times, edges_at, targets, depends_at, nodes_of, IsWithin}
 use Rattle.dep_graph.specs.Order.{IsInOrder, IsDependencyOrder, is_away, is_free, is_loopless, IsLooplessPart}
-use Rattle.dep_graph.specs.Waiting.{times, count_outside, IsWaiting}
+use Rattle.dep_graph.specs.Waiting.{count_outside, IsWaiting}
 use Rattle.dep_graph.proofs.Members.{Place, place_of, has_at, has-filter, has-range, below-range, all_has, all_from_has, same_bool, at_most, got}
 use Rattle.dep_graph.proofs.Reaching.{target_below, increasing_range}
 use Rattle.dep_graph.proofs.Waiting.{some_outside, Outside, count_outside-cons, take_up}
-use Rattle.dep_graph.proofs.Turns.{times_dependents}
+use Rattle.dep_graph.proofs.Turns.{is_turned}
 use Rattle.dep_graph.specs.Turned.{dependents_at, dependents}
-use Rattle.std.proofs.lemmas.List.FromFn.{length-range_with_len, get_or-map-range_with_len}
+use Rattle.std.proofs.lemmas.List.FromFn.{length-range_with_len}
 use Rattle.std.proofs.lemmas.List.Elements.{All-get_or}
-
-zero_more : (n : ℕ) → 0 + n ≡ n
-zero_more n = omega arith
 
 and_true : (b : Bool) → (b && true) ≡ b
 and_true true = refl
@@ -171,9 +168,9 @@ module _ (graph : List (List Edge)) where
   next_taken turned at node left order edges e h is w =
       let here : (at < length order) × (get_or order at 0 ≡ node) = got order at node h in
       let below : node < length graph = subst (λ n. n < length graph) here.1 (All-get_or (λ n. n < length graph) order at 0 here.0 w.in_order.nodes) in
-      let same : edges ≡ dependents_at graph node = is ∙ ap (λ t. get_or t node []) e ∙ get_or-map-range_with_len (dependents_at graph) 0 (length graph) node node [] below (zero_more node) in
+      let same : edges ≡ edges_at (dependents graph) node = is ∙ ap (λ t. edges_at t node) e in
       take_up graph at left order (targets edges) here.0
-      (λ n l. ap (λ t. times (targets t) n) same ∙ times_dependents graph node n l ∙ ap (times (depends_at graph n)) (sym here.1)) w
+      (λ n l. ap (λ t. times (targets t) n) same ∙ is_turned graph n node l below ∙ ap (times (depends_at graph n)) (sym here.1)) w
 
   pub waits_fit : (first : ℕ) (rest left order : List ℕ) → IsWaiting graph first rest left order → (n : ℕ) → n < length left → times rest n ≤ get_or left n 0
   waits_fit first rest left order w n l =

@@ -4,14 +4,14 @@ use Rattle.std.specs.Prelude.{◌==◌, ◌&&◌, filter, map, nat_lt}
 use Rattle.std.specs.List.{flat_map, range_with_len, count_by, sum_by}
 use Rattle.std.proofs.lemmas.Bool.{eq-eqb, ne_eqb, lt-ltb, le-ltb, cases_lt, cases_eq}
 use Rattle.std.proofs.lemmas.List.{map-append}
+use Rattle.std.proofs.lemmas.List.FromFn.{get_or-map-range_with_len}
 use Rattle.std.proofs.lemmas.List.Sums.{sum_by-append, sum_by-cons, sum_by_push}
 use Rattle.bulk_model.specs.declared.depend.DepKind.{DepKind}
 use Rattle.bulk_model.specs.declared.depend.DepKind.TheVariants.{Pkg, Fetch, Extract, Patch, Build, Lib, Run}
 use Rattle.bulk_model.specs.declared.plan.Edge.{Edge}
 use Rattle.bulk_model.specs.Facts.{kind_number}
-use Rattle.dep_graph.specs.Graphs.{edges_at, targets, depends_at, nodes_of}
-use Rattle.dep_graph.specs.Turned.{is_edge_to, turned_of_kind, turned_from, dependents_at}
-use Rattle.dep_graph.specs.Waiting.{times}
+use Rattle.dep_graph.specs.Graphs.{times, edges_at, targets, depends_at, nodes_of}
+use Rattle.dep_graph.specs.Turned.{is_edge_to, turned_of_kind, turned_from, dependents_at, dependents, IsTurned}
 use Rattle.dep_graph.proofs.Members.{range_more}
 use Rattle.dep_graph.proofs.Waiting.{one_if, times-cons}
 use Rattle.dep_graph.proofs.Installing.{eq_turned}
@@ -132,9 +132,14 @@ single g m (suc count) =
     let e : suc count ≡ count + 1 = omega arith in
     subst (λ c. sum_by (λ n. if_same (m == n) (g n)) (range_with_len 0 c) ≡ if_same (nat_lt m c) (g m)) (sym e) (single_step g m count (single g m count))
 
-pub times_dependents : (graph : List (List Edge)) (d m : ℕ) → m < length graph → times (targets (dependents_at graph d)) m ≡ times (depends_at graph m) d
+times_dependents : (graph : List (List Edge)) (d m : ℕ) → m < length graph → times (targets (dependents_at graph d)) m ≡ times (depends_at graph m) d
 times_dependents graph d m l =
     times-flat_map (λ n. turned_from n d (edges_at graph n)) (nodes_of graph) m
     ∙ sum_agree (λ n. times (targets (turned_from n d (edges_at graph n))) m) (λ n. if_same (m == n) (times (depends_at graph n) d)) (nodes_of graph) (λ n. times_from n d m (edges_at graph n))
     ∙ single (λ n. times (depends_at graph n) d) m (length graph)
     ∙ ap (λ b. if_same b (times (depends_at graph m) d)) (lt-ltb m (length graph) l)
+
+-- the law of dependents
+pub is_turned : (graph : List (List Edge)) → IsTurned graph (dependents graph)
+is_turned graph n d a b =
+    ap (λ edges. times (targets edges) n) (get_or-map-range_with_len (dependents_at graph) 0 (length graph) d d [] b (zero_more d)) ∙ times_dependents graph d n a

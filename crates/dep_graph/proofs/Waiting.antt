@@ -9,8 +9,8 @@ use Rattle.std.proofs.lemmas.List.Elements.{All-push}
 use Rattle.std.proofs.lemmas.List.Sums.{sum_by-cons}
 use Rattle.std.proofs.lemmas.Map.Keys.{IsDistinct-push, apart_from_distinct}
 use Rattle.bulk_model.specs.declared.plan.Edge.{Edge}
-use Rattle.dep_graph.specs.Graphs.{has, depends_at}
-use Rattle.dep_graph.specs.Waiting.{times, count_outside, IsWaiting}
+use Rattle.dep_graph.specs.Graphs.{has, times, depends_at}
+use Rattle.dep_graph.specs.Waiting.{count_outside, IsWaiting}
 use Rattle.dep_graph.proofs.Members.{Place, place_of, has_from_place, has-append, all_from_has}
 
 pub or_none : (b : Bool) → (b || (false || false)) ≡ b

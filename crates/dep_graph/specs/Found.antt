@@ -1,5 +1,5 @@
 -- Nodes as they are found.
-use Rattle.std.specs.Prelude.{◌≡◌, ℕ, Bool, true, false, ◌<◌, List, ◌∷◌, [], ◌++◌, length, filter, slice_index_or, nat_eq, if◌then◌else◌}
+use Rattle.std.specs.Prelude.{◌≡◌, ℕ, Bool, true, false, ◌<◌, List, ◌∷◌, [], ◌++◌, length, filter, slice_index_or, slice_set, nat_eq, if◌then◌else◌}
 use Rattle.std.specs.List.{All, IsDistinct, fold}
 use Rattle.bulk_model.specs.declared.depend.DepKind.{DepKind}
 use Rattle.bulk_model.specs.declared.plan.Edge.{Edge}
@@ -28,6 +28,10 @@ with_nodes nodes more = fold with_node nodes more
 
 abbrev pub found_with : FoundView → List ℕ → FoundView
 found_with found more = record { count = found.count; nodes = with_nodes found.nodes more }
+
+-- these marks, without those at some nodes
+abbrev pub unmarked : List Bool → List ℕ → List Bool
+unmarked marks nodes = fold (λ marks n. slice_set marks n false) marks nodes
 
 -- whether edges of a kind are followed
 abbrev pub follows : Follow → DepKind → Bool

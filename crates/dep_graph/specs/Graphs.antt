@@ -1,6 +1,6 @@
 -- A graph of dependencies: for each node, which is a number, the list of its dependencies.
 use Rattle.std.specs.Prelude.{ℕ, Bool, ◌==◌, ◌<◌, ◌^◌, List, [], length, map, slice_index_or}
-use Rattle.std.specs.List.{list_any, range_with_len, All}
+use Rattle.std.specs.List.{list_any, count_by, range_with_len, All}
 use Rattle.bulk_model.specs.declared.plan.Edge.{Edge}
 
 -- the dependencies of a node, in the order of its edges
@@ -18,6 +18,10 @@ nodes_of graph = range_with_len 0 (length graph)
 
 abbrev pub has : List ℕ → ℕ → Bool
 has numbers n = list_any (λ number. n == number) numbers
+
+-- how often a number is in a list
+abbrev pub times : List ℕ → ℕ → ℕ
+times numbers n = count_by (λ number. n == number) numbers
 
 -- all edges go to nodes
 abbrev pub IsWithin : ℕ → List (List Edge) → Type 0

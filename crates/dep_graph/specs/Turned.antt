@@ -3,7 +3,7 @@ use Rattle.std.specs.Prelude.{◌≡◌, ℕ, Bool, ◌==◌, ◌&&◌, ◌<◌,
 use Rattle.std.specs.List.{flat_map, range_with_len}
 use Rattle.bulk_model.specs.declared.plan.Edge.{Edge}
 use Rattle.bulk_model.specs.Facts.{kind_number}
-use Rattle.dep_graph.specs.Graphs.{edges_at, nodes_of}
+use Rattle.dep_graph.specs.Graphs.{times, edges_at, depends_at, nodes_of}
 
 abbrev pub is_edge_to : ℕ → ℕ → Edge → Bool
 is_edge_to kind d edge = (kind_number edge.kind == kind) && (edge.to == d)
@@ -22,6 +22,11 @@ dependents_at graph d = flat_map (λ n. turned_from n d (edges_at graph n)) (nod
 
 abbrev pub dependents : List (List Edge) → List (List Edge)
 dependents graph = map (dependents_at graph) (nodes_of graph)
+
+-- a node stands in another's list of the turned graph as often as the other stands in its own
+abbrev pub IsTurned : List (List Edge) → List (List Edge) → Type 0
+IsTurned graph turned =
+    (n d : ℕ) → n < length graph → d < length graph → times (depends_at turned d) n ≡ times (depends_at graph n) d
 
 -- each list grew by what is said for its place
 pub record Grew (before after : List (List Edge)) (more : ℕ → List Edge) : Type 0 where

@@ -2,12 +2,8 @@
 use Rattle.std.specs.Prelude.{◌≡◌, ℕ, not, ◌==◌, ◌+◌, ◌<◌, ◌≤◌, List, length, take, slice_index}
 use Rattle.std.specs.List.{count_by}
 use Rattle.bulk_model.specs.declared.plan.Edge.{Edge}
-use Rattle.dep_graph.specs.Graphs.{has, depends_at}
+use Rattle.dep_graph.specs.Graphs.{has, times, depends_at}
 use Rattle.dep_graph.specs.Order.{IsInOrder}
-
--- how often a number is in a list
-abbrev pub times : List ℕ → ℕ → ℕ
-times numbers n = count_by (λ number. n == number) numbers
 
 -- how many of the numbers are not in the list
 abbrev pub count_outside : List ℕ → List ℕ → ℕ

@@ -3,7 +3,7 @@ ghost use Rattle.std.specs.Prelude.{◌≡◌, ◌<◌, ◌≤◌, ◌^◌, [], 
 ghost use Rattle.std.specs.Option.{option_copied};
 ghost use Rattle.std.specs.List.{All, range_with_len};
 ghost use Rattle.dep_graph.specs.Graphs.{has};
-ghost use Rattle.dep_graph.specs.Found.{with_node, with_nodes};
+ghost use Rattle.dep_graph.specs.Found.{with_node, with_nodes, unmarked};
 
 use bulk_base::{NoMemory, Sequence};
 use bulk_model::Numbers;
@@ -26,6 +26,16 @@ impl Model for Found {
     ghost view = { λ f. record { count = length f.marks.items; nodes = f.nodes.items } };
 
     ghost invariant = { λ f. IsFound f.marks.items f.nodes.items };
+}
+
+/// Takes the marks at some nodes away.
+fn unmark(marks: &mut Vec<bool>, nodes: &[u32])
+    requires { All (λ n. n < length marks.old.items) nodes.now }
+    ensures { marks.new.items ≡ unmarked marks.old.items nodes.now }
+{
+    for n in nodes {
+        marks[*n as usize] = false;
+    }
 }
 
 impl Found {
@@ -54,7 +64,8 @@ impl Found {
     /// Adds a node that was not found before.
     pub(crate) fn add(&mut self, n: u32) -> Result<(), NoMemory>
         requires { n < self.old.count }
-        ensures { OnOk result (self.new ≡ record { count = self.old.count; nodes = with_node self.old.nodes n }) }
+        ensures nodes { OnOk result (self.new ≡ record { count = self.old.count; nodes = with_node self.old.nodes n }) }
+        ensures count { self.new.count ≡ self.old.count }
     {
         if !self.marks[n as usize] {
             self.nodes.push(n)?;
@@ -84,5 +95,23 @@ impl Found {
             }
         }
         Ok(numbers)
+    }
+
+    /// The same by a sort, which costs no pass over the marks: as many steps as nodes were found, times the logarithm of
+    /// their number.
+    pub(crate) fn sorted(&self, alloc: Global) -> Result<Numbers, NoMemory>
+        ensures { IfOk result (λ numbers. numbers ≡ filter (has self.now.nodes) (range_with_len 0 self.now.count)) }
+    {
+        let mut nodes = Vec::from_slice(alloc, self.nodes.as_slice())?;
+        nodes.sort_unstable();
+        Ok(Sequence::from_vec(nodes))
+    }
+
+    /// Forgets the nodes that were found. As many steps as there are of them.
+    pub(crate) fn clear(&mut self)
+        ensures { self.new ≡ record { count = self.old.count; nodes = [] } }
+    {
+        unmark(&mut self.marks, self.nodes.as_slice());
+        self.nodes.clear();
     }
 }

@@ -3,7 +3,7 @@ ghost use Rattle.std.specs.Prelude.{◌≡◌, ◌<◌, ℕ, length, slice_index
 ghost use Rattle.std.specs.List.{All};
 ghost use Rattle.dep_graph.specs.Graphs.{IsGraph};
 ghost use Rattle.dep_graph.specs.Reached.{reach, IsReach};
-ghost use Rattle.dep_graph.specs.Turned.{dependents};
+ghost use Rattle.dep_graph.specs.Turned.{dependents, IsTurned};
 ghost use Rattle.dep_graph.specs.Order.{IsLooplessPart, IsDependencyOrder, is_loopless};
 ghost use Rattle.dep_graph.specs.Chains.{IsLongest};
 
@@ -72,9 +72,13 @@ impl Graph {
     /// The graph of dependents: each edge turned round, its kind kept, the edges of a node by target, then kind.
     /// NoMemory for want of memory alone.
     ///
+    /// A node stands among the dependents of another as often as the other stands among its dependencies, so whoever waits
+    /// for each dependency may count down by the dependents.
+    ///
     /// Each node and each edge is looked at once for each of the seven kinds.
     pub fn dependents(&self, alloc: Global) -> Result<Graph, NoMemory>
-        ensures { IfOk result (λ turned. turned ≡ dependents self.now) }
+        ensures value { IfOk result (λ turned. turned ≡ dependents self.now) }
+        ensures counts { IfOk result (IsTurned self.now) }
     {
         Ok(Graph {
             edges: Sequence::from_vec(turned(alloc, self.edges.as_slice())?),

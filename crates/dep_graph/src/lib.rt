@@ -13,5 +13,5 @@ mod tests;
 mod turned;
 
 pub use graph::Graph;
-pub use installed::installs;
+pub use installed::{Collector, installs};
 pub use law::laws;

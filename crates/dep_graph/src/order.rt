@@ -2,9 +2,9 @@
 ghost use Rattle.std.specs.Prelude.{◌≡◌, ◌<◌, ◌≤◌, ◌-◌, ◌==◌, ◌^◌, ◌∷◌, ◌++◌, [], ℕ, List, length, map, filter, slice_get, slice_index, slice_set, IfOk, OnOk, if◌then◌else◌};
 ghost use Rattle.std.specs.List.{All, range_with_len};
 ghost use Rattle.bulk_model.specs.declared.plan.Edge.{Edge};
-ghost use Rattle.dep_graph.specs.Graphs.{IsGraph, targets};
+ghost use Rattle.dep_graph.specs.Graphs.{IsGraph, targets, times};
 ghost use Rattle.dep_graph.specs.Turned.{dependents as turned_edges};
-ghost use Rattle.dep_graph.specs.Waiting.{times, IsWaiting};
+ghost use Rattle.dep_graph.specs.Waiting.{IsWaiting};
 ghost use Rattle.dep_graph.specs.Order.{IsLooplessPart};
 
 use bulk_base::NoMemory;

@@ -32,7 +32,8 @@ impl Follow {
 /// Adds the nodes that followed edges lead to.
 pub(crate) fn add_edges(found: &mut Found, edges: &[Edge], follow: Follow) -> Result<(), NoMemory>
     requires { All (λ edge. edge.to < found.old.count) edges.now }
-    ensures { OnOk result (found.new ≡ found_with found.old (followed follow edges.now)) }
+    ensures nodes { OnOk result (found.new ≡ found_with found.old (followed follow edges.now)) }
+    ensures count { found.new.count ≡ found.old.count }
 {
     for edge in edges {
         if follow.takes(edge.kind) {
@@ -46,7 +47,8 @@ pub(crate) fn add_edges(found: &mut Found, edges: &[Edge], follow: Follow) -> Re
 pub(crate) fn spread(found: &mut Found, graph: &[Edges], follow: Follow) -> Result<(), NoMemory>
     requires count { found.old.count ≡ length graph.now }
     requires within { IsWithin (length graph.now) graph.now }
-    ensures { OnOk result (Spreads (leads_to follow graph.now) found.old found.new) }
+    ensures nodes { OnOk result (Spreads (leads_to follow graph.now) found.old found.new) }
+    ensures count { found.new.count ≡ found.old.count }
 {
     let mut at = 0;
     while let Some(node) = found.get(at) {

@@ -1,11 +1,26 @@
 // The options that are asked for.
 ghost use Rattle.std.specs.Prelude.{◌≡◌, IfOk};
 ghost use Rattle.option_set.specs.Layers as layers_of;
+ghost use Rattle.option_set.specs.Stack.{switches_by};
 
 use crate::layers::Layers;
 use crate::stack::Stack;
-use bulk_base::{NoMemory, Sequence, Switch, Switches, Texts};
+use bulk_base::{NoMemory, Sequence, Switch, Switches, Text, Texts};
 use std::alloc::Global;
+
+/// Names with whether each is on after the layers.
+fn switches_by(alloc: Global, names: &[Text], stack: &Stack) -> Result<Switches, NoMemory>
+    ensures { IfOk result (λ switches. switches ≡ switches_by stack.now names.now) }
+{
+    let mut found = Sequence::new(alloc);
+    for name in names {
+        found.push(Switch {
+            name: name.copy(alloc)?,
+            on: stack.turns_on(name),
+        })?;
+    }
+    Ok(found)
+}
 
 /// Each option of a list with whether it is on after the port's default and the layers above it, in the list's order: on by
 /// the last layer that names it, and off where that layer names it both on and off (bsd.options.mk). Names that are not in
@@ -21,12 +36,5 @@ pub fn asked(
     ensures { IfOk result (λ switches. switches ≡ layers_of.asked options.now default.now layers.now) }
 {
     let stack = Stack::new(alloc, default, layers)?;
-    let mut found = Sequence::new(alloc);
-    for name in options.as_slice() {
-        found.push(Switch {
-            name: name.copy(alloc)?,
-            on: stack.turns_on(name),
-        })?;
-    }
-    Ok(found)
+    switches_by(alloc, options.as_slice(), &stack)
 }

@@ -56,6 +56,55 @@ fn switches(alloc: Global, options: &[Text], on: &Listed) -> Result<Switches, No
     Ok(found)
 }
 
+/// Options with their states where these are on, or the first refusal of them.
+fn decide(
+    alloc: Global,
+    vars: &Vars,
+    defining: &Defining,
+    options: &[Text],
+    on: &Listed,
+) -> Result<Switches, OptionError>
+    ensures ok { IfOk result (λ switches. of.decided vars.now defining.now options.now on.now ≡ Ok switches) }
+    ensures refused { IfErr result (λ e. e ≢ OptionError.NoMemory → of.decided vars.now defining.now options.now on.now ≡ Err e) }
+{
+    if let Some(refusal) = state_refused(alloc, vars, defining, on)? {
+        return Err(refusal);
+    }
+    Ok(switches(alloc, options, on)?)
+}
+
+/// Options with their states, or the first refusal of those that are on.
+fn settle(
+    alloc: Global,
+    vars: &Vars,
+    layers: &Layers,
+    defining: &Defining,
+    options: &Listed,
+) -> Result<Switches, OptionError>
+    ensures ok { IfOk result (λ switches. of.settled vars.now layers.now defining.now options.now ≡ Ok switches) }
+    ensures refused { IfErr result (λ e. e ≢ OptionError.NoMemory → of.settled vars.now layers.now defining.now options.now ≡ Err e) }
+{
+    let on = Listed::new(alloc, options_on(alloc, vars, options.names(), layers)?)?;
+    decide(alloc, vars, defining, options.as_slice(), &on)
+}
+
+/// The options that are defined with their states, or the first refusal.
+fn choose_of(
+    alloc: Global,
+    vars: &Vars,
+    layers: &Layers,
+    defining: &Defining,
+) -> Result<Switches, OptionError>
+    ensures ok { IfOk result (λ switches. of.chosen_of vars.now layers.now defining.now ≡ Ok switches) }
+    ensures refused { IfErr result (λ e. e ≢ OptionError.NoMemory → of.chosen_of vars.now layers.now defining.now ≡ Err e) }
+{
+    let options = options_of(alloc, defining)?;
+    if let Some(refusal) = words_refused(alloc, vars, defining, &options)? {
+        return Err(refusal);
+    }
+    settle(alloc, vars, layers, defining, &options)
+}
+
 /// All options that a port defines with their states, in byte order (Porter's Handbook, "Options"; docs/FORMATS.md,
 /// "Options"). Defined are the words of OPTIONS_DEFINE and the members of the groups of OPTIONS_GROUP, OPTIONS_SINGLE,
 /// OPTIONS_RADIO and OPTIONS_MULTI. On are those that OPTIONS_DEFAULT and the layers above it turn on, and all that these
@@ -73,13 +122,5 @@ pub fn choose(alloc: Global, vars: &Vars, layers: &Layers) -> Result<Switches, O
     ensures refused { IfErr result (λ e. e ≢ OptionError.NoMemory → of.chosen vars.now layers.now ≡ Err e) }
 {
     let defining = read_defining(alloc, vars)?;
-    let options = options_of(alloc, &defining)?;
-    if let Some(refusal) = words_refused(alloc, vars, &defining, &options)? {
-        return Err(refusal);
-    }
-    let on = Listed::new(alloc, options_on(alloc, vars, options.names(), layers)?)?;
-    if let Some(refusal) = state_refused(alloc, vars, &defining, &on)? {
-        return Err(refusal);
-    }
-    Ok(switches(alloc, options.as_slice(), &on)?)
+    choose_of(alloc, vars, layers, &defining)
 }

@@ -14,3 +14,4 @@ pub mod SaidAgain
 pub mod SpelledAgain
 pub mod Fronts
 pub mod Refused
+pub mod Judging

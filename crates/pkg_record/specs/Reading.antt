@@ -140,6 +140,12 @@ signed_at bytes = do
   digest ← said_at (word_behind (codes "sha256 ") is_digest) p.1
   if length digest.1 == 0 then Ok (signed p.0 digest.0 (length bytes - length p.1)) else Err (Misfit (length digest.1))
 
+-- the digest that the line states which ends the bytes
+abbrev pub last_at : List ℕ → Result (List ℕ) Fault
+last_at bytes = do
+  digest ← said_at (word_behind (codes "sha256 ") is_digest) bytes
+  if length digest.1 == 0 then Ok digest.0 else Err (Misfit (length digest.1))
+
 -- the digest of the first bytes
 abbrev pub digest_of : ℕ → List ℕ → List ℕ
 digest_of size bytes = encode_lower (sha256 (take size bytes))
@@ -149,6 +155,12 @@ unfoldable pub judged : List ℕ → Result Signed Fault → Result PackageView 
 judged bytes (Err Short) = Err records.Short
 judged bytes (Err (Misfit left)) = Err (records.BadField (length bytes - left))
 judged bytes (Ok s) = if bytes_eq s.stated (digest_of s.size bytes) then Ok s.read else Err (records.BadDigest s.stated (digest_of s.size bytes))
+
+-- why bytes of this length are no record
+abbrev pub refusal : ℕ → ReadError → RecordError
+refusal size errors.Memory = records.NoMemory
+refusal size (errors.Found Short) = records.Short
+refusal size (errors.Found (Misfit left)) = records.BadField (size - left)
 
 abbrev pub record_of : List ℕ → Result PackageView RecordError
 record_of bytes = judged bytes (signed_at bytes)

@@ -1,13 +1,14 @@
 // A package out of its record.
-ghost use Rattle.std.specs.Prelude.{◌≡◌, ◌≢◌, ◌≤◌, List, ℕ, [], ◌++◌, length, IfOk, IfErr, IsTrue, MatchResult};
+ghost use Rattle.std.specs.Prelude.{◌≡◌, ◌≢◌, ◌≤◌, List, ℕ, [], ◌++◌, length, IfOk, IfErr, OnOk, IsTrue, MatchResult};
 ghost use Rattle.sha2.specs.Sha256.{sha256};
 ghost use Rattle.hex.specs.Hex.{encode_lower};
+ghost use Rattle.bulk_model.specs.Facts.{IsPackage};
 ghost use Rattle.bulk_model.specs.Spelling.{unsigned, signed_with, spelling};
 ghost use Rattle.pkg_record.specs.declared.fault.RecordError.TheVariants.{BadDigest};
 ghost use Rattle.pkg_record.specs.Forms.{is_digest};
 ghost use Rattle.pkg_record.specs.Laws.{HasRecord, IsForDigest, IsRefusedAs};
 ghost use Rattle.bulk_model.specs.Views.{PackageView};
-ghost use Rattle.pkg_record.specs.Reading.{Gives, unsigned_at, signed_at, signed, record_of};
+ghost use Rattle.pkg_record.specs.Reading.{Gives, unsigned_at, last_at, record_of};
 
 use crate::fault::{Fault, ReadError, RecordError, misfit};
 use crate::line_reader::{digest_line, flavor_line, name_line, origin_line, version_line};
@@ -40,18 +41,15 @@ fn unsigned(alloc: Global, bytes: &[u8]) -> Result<(Package, &[u8]), ReadError>
     Ok((built, rest))
 }
 
-/// The package, the digest that the record states, and how many bytes stand before the line that states it.
-#[tactic(auto, unfolding(crate::specs::Reading::signed_at))]
-fn whole(alloc: Global, bytes: &[u8]) -> Result<(Package, Text, usize), ReadError>
-    ensures read { Gives (λ x. signed x.0 x.1 x.2) result (signed_at bytes.now) }
-    ensures within { IfOk result (λ x. x.2 ≤ length bytes.now) }
+/// The digest that the record's last line states; nothing may stand behind the line.
+fn last_line(alloc: Global, bytes: &[u8]) -> Result<Text, ReadError>
+    ensures { Gives (λ stated. stated) result (last_at bytes.now) }
 {
-    let (built, last) = unsigned(alloc, bytes)?;
-    let (stated, rest) = digest_line(alloc, last)?;
+    let (stated, rest) = digest_line(alloc, bytes)?;
     if !rest.is_empty() {
         return Err(misfit(rest));
     }
-    Ok((built, stated, bytes.len().saturating_sub(last.len())))
+    Ok(stated)
 }
 
 /// SHA-256 in 64 lower-case digits.
@@ -62,26 +60,51 @@ fn digest_text(alloc: Global, bytes: &[u8]) -> Result<Text, NoMemory>
     Text::of(alloc, digits.as_str().as_bytes())
 }
 
-#[tactic(auto, unfolding(crate::specs::Reading::judged))]
+/// Why bytes of this length are no record.
+fn refusal(size: usize, error: ReadError) -> RecordError
+    ensures { result ≡ Rattle.pkg_record.specs.Reading.refusal size error }
+{
+    match error {
+        ReadError::Found(Fault::Short) => RecordError::Short,
+        ReadError::Found(Fault::Misfit(left)) => RecordError::BadField {
+            place: size.saturating_sub(left) as u64,
+        },
+        ReadError::Memory => RecordError::NoMemory,
+    }
+}
+
+/// Reads what stands behind a package's lines: the line with the digest of all bytes before it.
+fn verify(alloc: Global, bytes: &[u8], last: &[u8]) -> Result<(), RecordError>
+    ensures ok { OnOk result ((p : PackageView) → unsigned_at bytes.now ≡ Ok (p, last.now) → record_of bytes.now ≡ Ok p) }
+    ensures err { IfErr result (λ e. e ≢ RecordError.NoMemory → (p : PackageView) → unsigned_at bytes.now ≡ Ok (p, last.now)
+        → record_of bytes.now ≡ Err e) }
+    ensures digest { IfErr result (λ e. (p : PackageView) → IsPackage p → unsigned_at bytes.now ≡ Ok (p, last.now)
+        → IsForDigest bytes.now e) }
+{
+    let stated = match last_line(alloc, last) {
+        Ok(stated) => stated,
+        Err(error) => return Err(refusal(bytes.len(), error)),
+    };
+    let size = bytes.len().saturating_sub(last.len());
+    let found = digest_text(alloc, &bytes[..size])?;
+    if stated == found {
+        Ok(())
+    } else {
+        Err(RecordError::BadDigest { stated, found })
+    }
+}
+
 fn judged(alloc: Global, bytes: &[u8]) -> Result<Package, RecordError>
     ensures ok { IfOk result (λ p. record_of bytes.now ≡ Ok p) }
     ensures err { IfErr result (λ e. e ≢ RecordError.NoMemory → record_of bytes.now ≡ Err e) }
     ensures digest { IfErr result (λ e. IsForDigest bytes.now e) }
 {
-    match whole(alloc, bytes) {
-        Ok((built, stated, size)) => {
-            let found = digest_text(alloc, &bytes[..size])?;
-            if stated == found {
-                Ok(built)
-            } else {
-                Err(RecordError::BadDigest { stated, found })
-            }
+    match unsigned(alloc, bytes) {
+        Ok((built, last)) => {
+            verify(alloc, bytes, last)?;
+            Ok(built)
         }
-        Err(ReadError::Found(Fault::Short)) => Err(RecordError::Short),
-        Err(ReadError::Found(Fault::Misfit(left))) => Err(RecordError::BadField {
-            place: bytes.len().saturating_sub(left) as u64,
-        }),
-        Err(ReadError::Memory) => Err(RecordError::NoMemory),
+        Err(error) => Err(refusal(bytes.len(), error)),
     }
 }
 

@@ -20,15 +20,15 @@ pub loop-node-preserved : goal.loop-node-preserved
 loop-node-preserved c =
     let node : c.in-Some.node < length c.args.graph.now = omega (arith, c.in-Some.ensures.below, c.loop-node.invariant.count) in
     record {
-      count = ap (λ f. f.count) c.in_ok-add_edges.ensures ∙ c.loop-node.invariant.count;
+      count = c.add_edges.ensures.count ∙ c.loop-node.invariant.count;
       so_far = spread_on (leads_to c.args.follow c.args.graph.now) (length c.args.graph.now) c.args.found.now.nodes c.loop-node.at c.in-Some.node c.loop-node.found c.add_edges.new.found
           (followed c.args.follow c.as_slice.result.now) c.in-Some.ensures.node node
           (ap (followed c.args.follow) (c.as_slice.ensures ∙ get_or_read c.args.graph.now c.in-Some.node c.index-graph-node.result node c.index-graph-node.is []))
-          c.in_ok-add_edges.ensures c.loop-node.invariant.so_far;
+          c.in_ok-add_edges.ensures.nodes c.loop-node.invariant.so_far;
     }
 
-pub returns : goal.returns
-returns c =
+pub returns-clause-nodes : goal.returns-clause-nodes
+returns-clause-nodes c =
     spread_all (leads_to c.args.follow c.args.graph.now) (length c.args.graph.now) c.args.found.now.nodes c.loop-node.at c.args.found.now c.loop-node.found
     (ap (λ n. let v : FoundView = record { count = n; nodes = c.args.found.now.nodes } in v) c.requires.count) c.loop-node.invariant.count
     (not_got c.loop-node.found.nodes c.loop-node.at c.in_default.ensures.node)

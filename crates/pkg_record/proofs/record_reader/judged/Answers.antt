@@ -1,13 +1,10 @@
-use Rattle.std.proofs.Common.{sym, subst, ◌∙◌}
-use Rattle.bulk_model.specs.Facts.{IsPackage}
-use Rattle.std.proofs.lemmas.Bool.{both_ways}
-use Rattle.std.proofs.lemmas.Slice.Eq.{bytes_eq-Decides}
-use Rattle.std.specs.Prelude.{bytes_eq}
-use Rattle.pkg_record.specs.Reading.{signed}
-use Rattle.pkg_record.proofs.Spelled.{has_other_digest}
+use Rattle.std.proofs.Common.{◌≡◌, ◌≢◌, sym, subst}
+use Rattle.std.specs.Prelude.{Err}
+use Rattle.pkg_record.specs.declared.fault.RecordError.TheVariants.{NoMemory}
+use Rattle.pkg_record.specs.Reading.{record_of}
+use Rattle.pkg_record.proofs.Judging.{unsigned_refused}
 use Rattle.pkg_record.proofs.record_reader.judged.Goals as goal
 
-pub returns-else-eq-clause-digest : goal.returns-else-eq-clause-digest
-returns-else-eq-clause-digest c =
-    has_other_digest c.args.bytes.now c.in_ok-found-in-Ok.found (signed c.in-Ok.built c.in-Ok.stated c.in-Ok.size) c.in-Ok.ensures.read (subst IsPackage c.built.view_is c.built.invariant) c.in_ok-found-in-Ok.ensures
-    (λ q. both_ways (bytes_eq c.in-Ok.stated c.in_ok-found-in-Ok.found) (sym c.eq.ensures ∙ c.if-eq.false) ((bytes_eq-Decides c.in-Ok.stated c.in_ok-found-in-Ok.found).1 q))
+pub returns-in-Err-clause-err : goal.returns-in-Err-clause-err
+returns-in-Err-clause-err c =
+    subst (λ e. e ≢ NoMemory → record_of c.args.bytes.now ≡ Err e) (sym c.refusal.ensures) (unsigned_refused c.args.bytes.now c.in-Err.error c.in-Err.ensures)

@@ -12,7 +12,7 @@ returns-clause-nodes c =
     let same : c.as_slice-graph.result.now ≡ c.args.self.now = c.as_slice-graph.ensures ∙ c.self.view_is in
     IfOk-weaker c.ascending.result (λ reached. reached ≡ filter (has c.spread.new.found.nodes) (range_with_len 0 c.spread.new.found.count)) (λ reached. reached ≡ reach c.args.self.now c.args.from.now)
     (λ reached e. subst (λ g. reached ≡ reach g c.args.from.now) same
-    (reached_are c.as_slice-graph.result.now c.args.from.now c.spread.new.found (length c.as_slice-graph.result.now) c.in_ok-found.found refl c.in_ok-found.ensures c.in_ok-spread.ensures reached e))
+    (reached_are c.as_slice-graph.result.now c.args.from.now c.spread.new.found (length c.as_slice-graph.result.now) c.in_ok-found.found refl c.in_ok-found.ensures c.in_ok-spread.ensures.nodes reached e))
     c.ascending.ensures
 
 pub returns-clause-least_closed : goal.returns-clause-least_closed
@@ -22,5 +22,5 @@ returns-clause-least_closed c =
     let within : IsWithin (length c.as_slice-graph.result.now) c.as_slice-graph.result.now = subst (λ g. IsWithin (length g) g) (sym c.as_slice-graph.ensures) c.self.invariant.within in
     IfOk-weaker c.ascending.result (λ reached. reached ≡ filter (has c.spread.new.found.nodes) (range_with_len 0 c.spread.new.found.count)) (IsReach c.args.self.now c.args.from.now)
     (λ reached e. subst (λ g. IsReach g c.args.from.now reached) same
-    (is_reach c.as_slice-graph.result.now c.args.from.now c.spread.new.found (length c.as_slice-graph.result.now) c.in_ok-found.found refl c.in_ok-found.ensures c.in_ok-spread.ensures reached e inside within))
+    (is_reach c.as_slice-graph.result.now c.args.from.now c.spread.new.found (length c.as_slice-graph.result.now) c.in_ok-found.found refl c.in_ok-found.ensures c.in_ok-spread.ensures.nodes reached e inside within))
     c.ascending.ensures

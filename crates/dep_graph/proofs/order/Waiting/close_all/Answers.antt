@@ -2,8 +2,8 @@ use Rattle.std.proofs.Common.{◌≡◌, ◌<◌, ◌≤◌, ◌+◌, ◌-◌, �
 use Rattle.std.proofs.lemmas.List.{length-set, drop_more, drop_all}
 use Rattle.bulk_model.specs.declared.depend.DepKind.TheVariants.{Pkg}
 use Rattle.bulk_model.specs.declared.plan.Edge.{Edge}
-use Rattle.dep_graph.specs.Graphs.{targets}
-use Rattle.dep_graph.specs.Waiting.{times, IsWaiting}
+use Rattle.dep_graph.specs.Graphs.{targets, times}
+use Rattle.dep_graph.specs.Waiting.{IsWaiting}
 use Rattle.dep_graph.proofs.Waiting.{waits_less, fits_less, waits_some}
 use Rattle.dep_graph.proofs.order.Waiting.close_all.Goals as goal
 

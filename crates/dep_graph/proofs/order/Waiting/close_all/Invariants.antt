@@ -1,7 +1,7 @@
 use Rattle.std.proofs.Common.{◌≡◌, ◌<◌, ◌≤◌, ℕ, List, length, drop, get_or}
 use Rattle.bulk_model.specs.declared.plan.Edge.{Edge}
-use Rattle.dep_graph.specs.Graphs.{targets}
-use Rattle.dep_graph.specs.Waiting.{times, IsWaiting}
+use Rattle.dep_graph.specs.Graphs.{targets, times}
+use Rattle.dep_graph.specs.Waiting.{IsWaiting}
 use Rattle.dep_graph.proofs.order.Waiting.close_all.Given as goal
 
 abbrev pub invariant-loop-edge : goal.invariant-loop-edge
