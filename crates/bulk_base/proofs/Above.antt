@@ -20,7 +20,7 @@ or_rest true b h = absurd (true≢false h)
 or_rest false b h = h
 
 -- what a folder is joined to begins with the folder, and a slash stands behind that
-slash_behind : (folder path : List ℕ) → is_below folder path ≡ true → (length folder < length path) × (get_or path (length folder) 0 ≡ 47) × (take (length folder) path ≡ folder)
+pub slash_behind : (folder path : List ℕ) → is_below folder path ≡ true → (length folder < length path) × (get_or path (length folder) 0 ≡ 47) × (take (length folder) path ≡ folder)
 slash_behind folder path h =
     let e : path ≡ joined folder (drop (length folder + 1) path) = below_is_joined folder path h in
     let rest = drop (length folder + 1) path in (

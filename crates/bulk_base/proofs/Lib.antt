@@ -10,6 +10,7 @@ pub mod Above
 pub mod Sizes
 pub mod Places
 pub mod Together
+pub mod InOrder
 pub mod Members
 pub mod Least
 pub mod Totals

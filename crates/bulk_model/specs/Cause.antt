@@ -1,7 +1,7 @@
 -- Why a node was skipped.
-use Rattle.std.specs.Prelude.{ℕ, zero, suc, not, min, List, length, filter, Option, if◌then◌else◌}
-use Rattle.std.specs.List.{reduce}
+use Rattle.std.specs.Prelude.{ℕ, zero, suc, not, List, length, Option, if◌then◌else◌}
 use Rattle.std.specs.Option.{option_map_or}
+use Rattle.bulk_base.specs.Least.{least_passing}
 use Rattle.bulk_model.specs.declared.results.Status.{Status}
 use Rattle.bulk_model.specs.PlanView.{PlanView, depends}
 use Rattle.bulk_model.specs.Results.{is_good}
@@ -9,7 +9,7 @@ use Rattle.bulk_model.specs.Fit.{status_in, is_skipped}
 
 -- the least dependency of a node without a package
 abbrev pub least_setback : PlanView → List Status → ℕ → Option ℕ
-least_setback plan statuses n = reduce min (filter (λ d. not (is_good (status_in statuses d))) (depends plan n))
+least_setback plan statuses n = least_passing (λ d. not (is_good (status_in statuses d))) (depends plan n)
 
 -- that dependency, or where it was skipped its own cause, in so many steps at most
 abbrev pub cause_within : PlanView → List Status → ℕ → ℕ → ℕ

@@ -1,8 +1,9 @@
 -- Worked examples of builds, of what comes of a plan and of what is printed, for tests. A port `a/NAME` makes `NAME-1.0`.
-use Rattle.std.specs.Prelude.{ℕ, List, [], ◌∷◌, ◌++◌, map, codes, Option, Some, None}
+use Rattle.std.specs.Prelude.{ℕ, List, [], ◌∷◌, ◌++◌, map, codes, bytes_eq, unwrap_or, if◌then◌else◌, Option, Some, None}
 use Rattle.std.specs.List.{flat_map}
 use Rattle.bulk_base.specs.Words.{words_of}
-use Rattle.outside.specs.Programs.{mem_runs}
+use Rattle.bulk_base.specs.Number.{number_of}
+use Rattle.outside.specs.Contents.{Contents}
 use Rattle.bulk_model.specs.declared.depend.DepKind.{DepKind}
 use Rattle.bulk_model.specs.declared.depend.DepKind.TheVariants.{Build, Lib, Run}
 use Rattle.bulk_model.specs.declared.outcome.Outcome.{Outcome}
@@ -42,9 +43,15 @@ port_with name build stage =
 abbrev pub package_with : List ℕ → List ℕ → List ℕ → PackageView
 package_with name path bytes = package_of (port name) (record { path = path; bytes = bytes } ∷ [])
 
--- what comes of a build in memory, over these packages
+-- the status of a command: `true` does nothing, `exit N` ends with N, and there is no other program
+abbrev pub status : List (List ℕ) → ℕ
+status (program ∷ []) = if bytes_eq program (codes "true") then 0 else 127
+status (program ∷ number ∷ []) = if bytes_eq program (codes "exit") then unwrap_or (number_of number) 2 else 127
+status _ = 127
+
+-- what comes of a build over these packages, where no command changes a file
 abbrev pub baked : JobView → List PackageView → Outcome
-baked job packages = bake mem_runs [] job packages
+baked job packages = bake (λ words folder. (status words, folder)) [] job packages
 
 -- an edge
 abbrev pub to : DepKind → ℕ → Edge

@@ -1,13 +1,14 @@
 // Why a node was skipped.
-ghost use Rattle.std.specs.Prelude.{◌≡◌, ◌<◌, not, min, length, map, filter, IsTrue, IfSome};
-ghost use Rattle.std.specs.List.{All, reduce};
-ghost use Rattle.std.specs.Option.{option_map_or};
+ghost use Rattle.std.specs.Prelude.{◌≡◌, ◌<◌, not, length, map, IsTrue, IfSome};
+ghost use Rattle.std.specs.List.{All};
+ghost use Rattle.bulk_base.specs.Least.{least_passing};
 ghost use Rattle.bulk_model.specs.Fit.{status_in, is_skipped, FitsResults};
 ghost use Rattle.bulk_model.specs.Results.{is_good};
 ghost use Rattle.bulk_model.specs.Cause.{cause};
 
 use crate::plan::{Edge, Plan};
 use crate::results::{Results, Status};
+use bulk_base::lower;
 
 impl Status {
     /// Whether a node has a package.
@@ -27,16 +28,10 @@ impl Status {
     }
 }
 
-fn lower(least: Option<u32>, d: u32) -> u32
-    ensures { result ≡ option_map_or (λ l. min l d) least d }
-{
-    least.map_or(d, |l| l.min(d))
-}
-
 /// The least target of some edges that has no package.
 fn least_setback(edges: &[Edge], statuses: &[Status]) -> Option<u32>
     requires { All (λ edge. edge.to < length statuses.now) edges.now }
-    ensures least { result ≡ reduce min (filter (λ d. not (is_good (status_in statuses.now d))) (map (λ edge. edge.to) edges.now)) }
+    ensures least { result ≡ least_passing (λ d. not (is_good (status_in statuses.now d))) (map (λ edge. edge.to) edges.now) }
     ensures node { IfSome result (λ d. d < length statuses.now) }
 {
     let mut least = None;

@@ -11,7 +11,8 @@ use Rattle.bulk_run.specs.Kind.{Kind, kind_of, printed, bad_words, bad_tree, not
 use Rattle.bulk_model.specs.Bake.{Runs}
 use Rattle.bulk_model.specs.Views.{JobView}
 use Rattle.bulk_run.specs.declared.port_run.Report.{Report}
-use Rattle.bulk_run.specs.Causes.{IsCaused, err_is, is_refusal, leaves_rooms, leaves_store, blames_tree, blames_store, blames_room, refuses, is_tree_failure, is_store_failure, is_room_failure}
+use Rattle.outside.specs.Faults.{IsCaused, err_is}
+use Rattle.bulk_run.specs.Causes.{is_refusal, leaves_rooms, leaves_store, blames_tree, blames_store, blames_room, refuses, is_tree_failure, is_store_failure, is_room_failure}
 use Rattle.bulk_run.specs.Decided.{is_inner, IsInner, comes_inside, is_of_tree, comes_of_reading, is_of_words, AnswersWords, Decides, Tells, EndsAs, EndsInTree, RunEndsInTree, IsOfReading}
 use Rattle.bulk_run.specs.PortsWanted.{PortsWanted, names_of}
 use Rattle.bulk_run.specs.Refusals.{refusal_in, value_of}

@@ -1,6 +1,5 @@
--- Which object an answer blames, and what its count of faults did.
-use Rattle.std.specs.Prelude.{◌≡◌, ℕ, Bool, true, false, ◌≤◌, Result, Ok, Err}
-use Rattle.outside.specs.Faults.{Rose}
+-- Which object an answer blames.
+use Rattle.std.specs.Prelude.{Bool, true, false}
 use Rattle.bulk_run.specs.declared.answer.Answer.{Answer}
 use Rattle.bulk_run.specs.Kind.{Kind, kind_of, bad_words, bad_tree, not_served, tree_failed, store_failed, room_failed}
 
@@ -57,14 +56,3 @@ comes_before_store _ = false
 
 abbrev pub leaves_store : Answer → Bool
 leaves_store answer = comes_before_store (kind_of answer)
-
--- whether a result is an error that passes a test
-abbrev pub err_is : {X : Type 0} → (Answer → Bool) → Result X Answer → Bool
-err_is test (Ok x) = false
-err_is test (Err answer) = test answer
-
--- a count never falls, rose where the answer blames its object, and else stays
-pub record IsCaused (before now : ℕ) (blamed : Bool) : Type 0 where
-  pub later : before ≤ now
-  pub rose : blamed ≡ true → Rose before now
-  pub kept : blamed ≡ false → now ≡ before

@@ -4,7 +4,8 @@ ghost use Rattle.std.specs.Option.{option_copied};
 ghost use Rattle.outside.specs.Changes.{IsUnchanged};
 ghost use Rattle.bulk_run.specs.Refusals.{asked_words as words_of, refusal, refusal_before_store, store_refusal, told_refusal, tree_refusal, value_of, wanted_ports};
 ghost use Rattle.bulk_run.specs.PortsWanted as ports_wanted;
-ghost use Rattle.bulk_run.specs.Causes.{IsCaused, err_is, blames_tree, blames_store, blames_room};
+ghost use Rattle.outside.specs.Faults.{IsCaused, err_is};
+ghost use Rattle.bulk_run.specs.Causes.{blames_tree, blames_store, blames_room};
 ghost use Rattle.bulk_run.specs.Decided.{AnswersWords, Decides, IsInner, RunEndsInTree, is_of_tree, is_of_words};
 
 use crate::answer::Answer;

@@ -2,7 +2,8 @@
 ghost use Rattle.std.specs.Prelude.{◌≡◌, false, IsTrue};
 ghost use Rattle.conf_file.specs.Make.{make_of};
 ghost use Rattle.tree_index.specs.Faults.{refused_as};
-ghost use Rattle.bulk_run.specs.Causes.{IsCaused, err_is, blames_tree};
+ghost use Rattle.outside.specs.Faults.{IsCaused, err_is};
+ghost use Rattle.bulk_run.specs.Causes.{blames_tree};
 ghost use Rattle.bulk_run.specs.Decided.{IsOfReading, Tells};
 ghost use Rattle.bulk_run.specs.PortsWanted.{make_at, make_file};
 ghost use Rattle.bulk_run.specs.TreeAnswers as told;

@@ -1,7 +1,8 @@
 // Ports built, their packages stored, and the text that says so.
 ghost use Rattle.std.specs.Prelude.{◌≡◌, ◌≤◌, ◌⊎◌, ◌++◌, true, false, length, IsTrue, IfOk, OnOk, OnErr};
 ghost use Rattle.outside.specs.Changes.{IsUnchanged};
-ghost use Rattle.bulk_run.specs.Causes.{IsCaused, err_is, is_refusal, blames_tree, blames_store, blames_room};
+ghost use Rattle.outside.specs.Faults.{IsCaused, err_is};
+ghost use Rattle.bulk_run.specs.Causes.{is_refusal, blames_tree, blames_store, blames_room};
 ghost use Rattle.bulk_run.specs.Decided.{IsInner};
 ghost use Rattle.bulk_run.specs.Report.{stored_all};
 ghost use Rattle.bulk_run.specs.PortsWanted.{names_of};

@@ -1,11 +1,11 @@
 // The top calls.
 ghost use Rattle.std.specs.Prelude.{◌≡◌, ◌≢◌, ◌≤◌, ◌<◌, ◌^◌, ◌⊎◌, ◌++◌, ℕ, true, None, drop, vec_len, IsTrue, IfOk, IfErr, OnOk};
 ghost use Rattle.outside.specs.Changes.{IsUnchanged};
-ghost use Rattle.outside.specs.Faults.{Rose};
+ghost use Rattle.outside.specs.Faults.{Rose, IsCaused, err_is};
 ghost use Rattle.bulk_run.specs.AnswerLine.{answer_line};
 ghost use Rattle.bulk_run.specs.Ending.{BeganAtMost, BeganOnce, IsBlamed, HaveNotRisen, IsStatusOf, faults_of_first, begun_in_first};
 ghost use Rattle.bulk_run.specs.PortsRun.{HasStoredFirstWanted, HasStoredWanted, IsWhole, RanWanted};
-ghost use Rattle.bulk_run.specs.Causes.{IsCaused, err_is, leaves_rooms, leaves_store, blames_tree, blames_store, blames_room};
+ghost use Rattle.bulk_run.specs.Causes.{leaves_rooms, leaves_store, blames_tree, blames_store, blames_room};
 ghost use Rattle.bulk_run.specs.Refusals.{asked_words, refusal, refusal_before_store, refusal_over, refusal_over_before_store, roomless_refusal, told_refusal, told_refusal_over, wanted_ports};
 ghost use Rattle.bulk_run.specs.Decided.{AnswersRoomless, AnswersWords, AnswersWordsOver, IsInner, EndsAs, EndsInTree, RunEndsAs, RunEndsInTree};
 

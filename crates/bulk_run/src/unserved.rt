@@ -1,11 +1,11 @@
 // What a tree may hold that is not served yet.
 ghost use Rattle.std.specs.Prelude.{◌≡◌, Option, Some, None, find, true, IsTrue, IfOk, IfSome, OnOk};
 ghost use Rattle.std.specs.Option.{option_copied, option_map};
-ghost use Rattle.outside.specs.Faults.{HasCause};
+ghost use Rattle.outside.specs.Faults.{HasCause, IsCaused, err_is};
 ghost use Rattle.outside.specs.Contents.{files_below};
 ghost use Rattle.bulk_base.specs.Text.{is_plain_text};
 ghost use Rattle.bulk_base.specs.Path.{is_path};
-ghost use Rattle.bulk_run.specs.Causes.{IsCaused, err_is, blames_tree};
+ghost use Rattle.bulk_run.specs.Causes.{blames_tree};
 ghost use Rattle.bulk_run.specs.Decided.{Decides, IsOfReading};
 ghost use Rattle.bulk_run.specs.NodeJobs.{nodes_at};
 ghost use Rattle.bulk_run.specs.Unserved as specs;

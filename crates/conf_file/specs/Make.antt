@@ -9,7 +9,7 @@ use Rattle.port_vars.specs.declared.fault.VarsError.TheVariants.{BadLine as BadV
 use Rattle.port_vars.specs.Variables.{Vars, variables_of}
 use Rattle.port_name.specs.declared.place.Origin.{Origin}
 use Rattle.option_set.specs.declared.layers.Layers.{Layers}
-use Rattle.option_set.specs.Defined.{words_in}
+use Rattle.port_vars.specs.ValueWords.{words_in}
 use Rattle.conf_file.specs.declared.fault.ConfKind.TheVariants.{Line}
 use Rattle.conf_file.specs.declared.fault.ConfError.{ConfError}
 use Rattle.conf_file.specs.declared.fault.ConfError.TheVariants.{BadLine, NoMemory}

@@ -1,12 +1,12 @@
 // make.conf.
 ghost use Rattle.std.specs.Prelude.{◌≡◌, ◌≢◌, ◌++◌, ◌∷◌, codes, Ok, Err, IfOk, IfErr};
 ghost use Rattle.bulk_base.specs.Text.{IsText};
-ghost use Rattle.option_set.specs.Defined.{words_in as words_of};
+ghost use Rattle.port_vars.specs.ValueWords.{words_in as words_of};
 ghost use Rattle.conf_file.specs.Make as make_conf;
 
 use crate::fault::ConfError;
 use bulk_base::{NoMemory, Text, Texts};
-use option_set::{Layers, words_in};
+use option_set::Layers;
 use port_name::Origin;
 use port_vars::{Vars, read_vars};
 use std::alloc::Global;

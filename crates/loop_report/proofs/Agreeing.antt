@@ -6,7 +6,8 @@ use Rattle.std.specs.List.{fold}
 use Rattle.std.proofs.lemmas.List.Elements.{All-weaker}
 use Rattle.dep_graph.specs.Graphs.{has}
 use Rattle.dep_graph.proofs.Members.{filter_agree}
-use Rattle.loop_report.specs.Walks.{least, walk, before, comes_back, repeated, round_from, loop_from}
+use Rattle.bulk_base.specs.Least.{least}
+use Rattle.loop_report.specs.Walks.{walk, before, comes_back, repeated, round_from, loop_from}
 use Rattle.loop_report.proofs.WalkSteps.{walk-inside}
 use Rattle.loop_report.proofs.Repeating.{least_repeated, least_below, turned}
 

@@ -8,7 +8,8 @@ use Rattle.std.proofs.lemmas.List.{append-nil}
 use Rattle.std.proofs.lemmas.List.FromFn.{map-range_with_len_more}
 use Rattle.dep_graph.specs.Graphs.{has}
 use Rattle.dep_graph.proofs.Members.{has-filter, has-range, filter_range_more}
-use Rattle.loop_report.specs.Walks.{least, walk, before}
+use Rattle.bulk_base.specs.Least.{least}
+use Rattle.loop_report.specs.Walks.{walk, before}
 use Rattle.loop_report.proofs.Least.{least_from}
 
 -- the first number that passes is the least

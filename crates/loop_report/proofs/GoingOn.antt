@@ -11,7 +11,8 @@ use Rattle.dep_graph.specs.Order.{is_free}
 use Rattle.dep_graph.proofs.Members.{has-filter, has-range, below-range, all_has}
 use Rattle.dep_graph.proofs.Reaching.{target_below}
 use Rattle.dep_graph.proofs.Ordered.{loopless_from}
-use Rattle.loop_report.specs.Walks.{least, walk, before, round, loop_from}
+use Rattle.bulk_base.specs.Least.{least}
+use Rattle.loop_report.specs.Walks.{walk, before, round, loop_from}
 use Rattle.loop_report.specs.Loops.{stays, next, exact_loop, HasOrder}
 use Rattle.loop_report.proofs.Least.{IsLeast, least_is, has_head}
 use Rattle.loop_report.proofs.Existing.{ordered, is_loopless_part, free_from}

@@ -4,7 +4,7 @@ use Rattle.std.specs.Prelude.{◌==◌, ◌||◌}
 use Rattle.std.specs.List.{fold}
 use Rattle.std.proofs.lemmas.Bool.{eq-eqb, eqb-true, both_ways, cases_lt, or_right, or_left}
 use Rattle.dep_graph.specs.Graphs.{has}
-use Rattle.loop_report.specs.Walks.{least}
+use Rattle.bulk_base.specs.Least.{least}
 
 pub has_head : (x : ℕ) (xs : List ℕ) → has (x ∷ xs) x ≡ true
 has_head x xs = or_left (x == x) (has xs x) (eq-eqb x x refl)

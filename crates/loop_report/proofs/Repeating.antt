@@ -5,7 +5,8 @@ use Rattle.std.specs.Fn.{iterate}
 use Rattle.std.proofs.lemmas.Bool.{eq-eqb, eqb-true, both_ways, and_parts, and_from}
 use Rattle.dep_graph.specs.Graphs.{has}
 use Rattle.dep_graph.proofs.Members.{has-filter, same_bool}
-use Rattle.loop_report.specs.Walks.{least, walk, before, comes_back, repeated, round, round_from, loop_from}
+use Rattle.bulk_base.specs.Least.{least}
+use Rattle.loop_report.specs.Walks.{walk, before, comes_back, repeated, round, round_from, loop_from}
 use Rattle.loop_report.proofs.WalkSteps.{iterate-parts, iterate-add, walk_has, Steps, steps_to, iterate-inside, repeats, walk_all}
 use Rattle.loop_report.proofs.Least.{has_head, has_tail, member, IsLeast, least_is, least_same}
 

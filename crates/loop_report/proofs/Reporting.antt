@@ -15,7 +15,8 @@ use Rattle.dep_graph.specs.Order.{is_free, is_loopless, IsLooplessPart}
 use Rattle.dep_graph.proofs.Members.{all_has, all_from_has, has-range, filter_agree, filter_agree_below}
 use Rattle.dep_graph.proofs.Reaching.{target_below}
 use Rattle.dep_graph.proofs.Ordered.{loopless_from}
-use Rattle.loop_report.specs.Walks.{least, comes_back, round, loop_from}
+use Rattle.bulk_base.specs.Least.{least}
+use Rattle.loop_report.specs.Walks.{comes_back, round, loop_from}
 use Rattle.loop_report.specs.Loops.{stays, next_among, next, exact_loop, IsLoop}
 use Rattle.loop_report.proofs.Least.{IsLeast, least_is}
 use Rattle.loop_report.proofs.WalkSteps.{iterate-inside, iterate-add}

@@ -5,7 +5,8 @@ use Rattle.std.specs.List.{All, IsDistinct}
 use Rattle.bulk_model.specs.declared.plan.Edge.{Edge}
 use Rattle.dep_graph.specs.Graphs.{has, depends_at, nodes_of}
 use Rattle.dep_graph.specs.Order.{is_free, IsDependencyOrder}
-use Rattle.loop_report.specs.Walks.{least, loop_from}
+use Rattle.bulk_base.specs.Least.{least}
+use Rattle.loop_report.specs.Walks.{loop_from}
 
 -- a node stays where nodes all of whose dependencies are away are taken away, as often as there are nodes
 abbrev pub stays : List (List Edge) → ℕ → Bool

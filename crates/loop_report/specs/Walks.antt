@@ -1,11 +1,7 @@
 -- Walks over numbers: from each number there is one way on.
-use Rattle.std.specs.Prelude.{ℕ, zero, suc, Bool, ◌==◌, List, [], ◌∷◌, min, filter, Option, None, Some, if◌then◌else◌}
-use Rattle.std.specs.List.{reduce}
+use Rattle.std.specs.Prelude.{ℕ, zero, suc, Bool, ◌==◌, List, [], ◌∷◌, filter, Option, None, Some, if◌then◌else◌}
+use Rattle.bulk_base.specs.Least.{least}
 use Rattle.dep_graph.specs.Graphs.{has}
-
--- the least of some numbers
-abbrev pub least : List ℕ → Option ℕ
-least numbers = reduce min numbers
 
 -- the numbers of a walk, so many of them, from a given one on
 abbrev pub walk : (ℕ → ℕ) → ℕ → ℕ → List ℕ

@@ -3,7 +3,7 @@ ghost use Rattle.std.specs.Prelude.{◌≡◌, ◌<◌, ◌^◌, ℕ, false, not
 ghost use Rattle.std.specs.Option.{unwrap_or};
 ghost use Rattle.std.specs.List.{All, range_with_len};
 ghost use Rattle.dep_graph.specs.Graphs.{has, targets, nodes_of, IsWithin};
-ghost use Rattle.loop_report.specs.Walks.{least};
+ghost use Rattle.bulk_base.specs.Least.{least};
 ghost use Rattle.loop_report.specs.Loops.{next_among};
 
 use bulk_base::NoMemory;

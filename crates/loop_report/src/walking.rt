@@ -2,7 +2,8 @@
 ghost use Rattle.std.specs.Prelude.{◌≡◌, ◌<◌, Some, length, slice_index, IfOk};
 ghost use Rattle.std.specs.Fn.{iterate};
 ghost use Rattle.std.specs.List.{All};
-ghost use Rattle.loop_report.specs.Walks.{least, repeated, round, loop_from};
+ghost use Rattle.bulk_base.specs.Least.{least};
+ghost use Rattle.loop_report.specs.Walks.{repeated, round, loop_from};
 
 use bulk_base::NoMemory;
 use std::alloc::Global;

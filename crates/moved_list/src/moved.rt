@@ -8,7 +8,7 @@ ghost use Rattle.moved_list.specs.Moved.{entries, moved_of, last_line, IsPlaceOf
 use crate::entry::{entry, is_ignored, is_moved_line};
 use crate::fault::MovedError;
 use crate::line::{MovedLine, MovedLines};
-use bulk_base::{NoMemory, Sequence, Text, TextMap, lines};
+use bulk_base::{NoMemory, Sequence, Text, TextMap, lines, numbered_line};
 use std::alloc::Global;
 use std::marker::Model;
 
@@ -83,13 +83,11 @@ fn read_lines(alloc: Global, bytes: &[u8]) -> Result<MovedLines, MovedError>
     let spans = lines(alloc, bytes)?;
     let mut found = Sequence::new(alloc);
     for at in 0..spans.len() {
-        let line = spans.as_slice()[at].of(bytes);
-        if !is_moved_line(line) {
-            return Err(MovedError::BadLine {
-                line: at as u32 + 1,
-            });
+        let line = numbered_line(bytes, &spans, at);
+        if !is_moved_line(line.text) {
+            return Err(MovedError::BadLine { line: line.number });
         }
-        take_line(alloc, &mut found, line)?;
+        take_line(alloc, &mut found, line.text)?;
     }
     Ok(found)
 }

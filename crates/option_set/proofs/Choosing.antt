@@ -11,8 +11,8 @@ use Rattle.port_vars.specs.Variables.{Vars}
 use Rattle.port_name.specs.Sets.{is_among}
 use Rattle.option_set.specs.declared.layers.Layers.{Layers}
 use Rattle.option_set.specs.Layers.{asked}
-use Rattle.option_set.specs.Named.{Words}
-use Rattle.option_set.specs.Defined.{words_in}
+use Rattle.bulk_base.specs.Order.{TextSet as Words}
+use Rattle.port_vars.specs.ValueWords.{words_in}
 use Rattle.option_set.specs.Implied.{implied_by, names_on, on_after, on_in}
 
 pub on_is : (vars : Vars) (options : List (List ℕ)) (layers : Layers) (default : List (List ℕ)) (switches : List Switch) (begun : List (List ℕ)) (rounds : ℕ) (on : Words)

@@ -4,7 +4,7 @@ use Rattle.std.specs.Prelude.{◌||◌, ◌&&◌, not}
 use Rattle.std.specs.List.{flat_map}
 use Rattle.std.specs.FinMap as map
 use Rattle.port_name.specs.Sets.{is_among}
-use Rattle.option_set.specs.Named.{Words}
+use Rattle.bulk_base.specs.Order.{TextSet as Words}
 use Rattle.option_set.specs.Implied.{on_after}
 use Rattle.option_set.proofs.Spreading.{Spread, spread_on}
 

@@ -4,7 +4,7 @@ use Rattle.std.specs.Prelude.{◌||◌, ◌&&◌, not}
 use Rattle.std.specs.List.{flat_map}
 use Rattle.std.specs.FinMap as map
 use Rattle.port_name.specs.Sets.{is_among}
-use Rattle.option_set.specs.Named.{Words}
+use Rattle.bulk_base.specs.Order.{TextSet as Words}
 use Rattle.option_set.proofs.Among.{among_append, flat_same, flat_append}
 
 module _ (implies : List ℕ → List (List ℕ)) where

@@ -6,7 +6,7 @@ use Rattle.std.specs.Ordering.{nat_cmp, eq_by_cmp}
 use Rattle.std.specs.Cmp.Lexicographic.{slice_cmp, nat_list_cmp_total, texts_ties}
 use Rattle.std.specs.FinMap as map
 use Rattle.port_name.specs.Sets.{is_among}
-use Rattle.option_set.specs.Named.{Words}
+use Rattle.bulk_base.specs.Order.{TextSet as Words}
 use Rattle.option_set.proofs.Among.{among_append, same_name}
 
 -- the set has what it had and the names, and the new ones are those that it had not

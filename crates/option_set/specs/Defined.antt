@@ -1,17 +1,11 @@
 -- The options that a port defines (Porter's Handbook, "Options"; docs/FORMATS.md).
 use Rattle.std.specs.Prelude.{ℕ, List, [], ◌++◌, map, codes}
-use Rattle.std.specs.Option.{option_map_or}
 use Rattle.std.specs.List.{flat_map}
-use Rattle.std.specs.FinMap.{get}
-use Rattle.bulk_base.specs.Words.{words_of}
 use Rattle.port_vars.specs.Variables.{Vars}
 use Rattle.option_set.specs.declared.defining.Group.{Group}
 use Rattle.option_set.specs.declared.defining.Defining.{Defining}
-use Rattle.option_set.specs.Named.{in_order}
-
--- the words of a variable; none where it is not set
-unfoldable pub words_in : Vars → List ℕ → List (List ℕ)
-words_in vars name = option_map_or words_of (get vars name) []
+use Rattle.bulk_base.specs.Order.{in_order}
+use Rattle.port_vars.specs.ValueWords.{words_in}
 
 -- a group with the words of its own variable
 abbrev pub group_of : Vars → List ℕ → List ℕ → Group

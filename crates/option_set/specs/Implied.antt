@@ -6,7 +6,7 @@ use Rattle.port_vars.specs.Variables.{Vars}
 use Rattle.port_name.specs.Sets.{is_among}
 use Rattle.option_set.specs.declared.layers.Layers.{Layers}
 use Rattle.option_set.specs.Layers.{asked}
-use Rattle.option_set.specs.Defined.{words_in}
+use Rattle.port_vars.specs.ValueWords.{words_in}
 
 -- the words of X_IMPLIES
 abbrev pub implied_by : Vars → List ℕ → List (List ℕ)

@@ -11,10 +11,9 @@ use crate::implied::options_on;
 use crate::layers::Layers;
 use crate::listed::Listed;
 use crate::listing::option_words;
-use crate::order::in_order;
 use crate::prevented::first_prevented;
 use crate::refusal::words_refused;
-use bulk_base::{NoMemory, Sequence, Switch, Switches, Text};
+use bulk_base::{NoMemory, Sequence, Switch, Switches, Text, in_order};
 use port_vars::Vars;
 use std::alloc::Global;
 

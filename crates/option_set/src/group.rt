@@ -1,14 +1,13 @@
 // Groups with too many or too few options on.
 ghost use Rattle.std.specs.Prelude.{◌≡◌, filter, IfOk};
 ghost use Rattle.port_name.specs.Sets.{is_among};
-ghost use Rattle.option_set.specs.Named as named;
+ghost use Rattle.bulk_base.specs.Order.{in_order};
 ghost use Rattle.option_set.specs.Refused as refused;
 
 use crate::defining::{Defining, Group};
 use crate::fault::OptionError;
 use crate::listed::Listed;
-use crate::order::in_order;
-use bulk_base::{NoMemory, Sequence, Text, Texts};
+use bulk_base::{NoMemory, Sequence, Text, Texts, in_order};
 use std::alloc::Global;
 
 /// The kinds of groups that ask for a number of options.
@@ -50,7 +49,7 @@ fn among(alloc: Global, names: &[Text], set: &Listed) -> Result<Texts, NoMemory>
 
 /// The names of a list that are in a set, in byte order, each once.
 pub(crate) fn among_in_order(alloc: Global, names: &[Text], set: &Listed) -> Result<Texts, NoMemory>
-    ensures { IfOk result (λ found. found ≡ named.in_order (filter (is_among set.now) names.now)) }
+    ensures { IfOk result (λ found. found ≡ in_order (filter (is_among set.now) names.now)) }
 {
     in_order(alloc, among(alloc, names, set)?.as_slice())
 }

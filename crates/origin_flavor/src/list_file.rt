@@ -8,7 +8,9 @@ ghost use Rattle.bulk_base.specs.Words.{is_filled};
 ghost use Rattle.origin_flavor.specs.ListFile.{is_hash, word_of, words_in, wanted_words};
 
 use crate::fault::WantedError;
-use bulk_base::{NoMemory, Sequence, Text, Texts, add_copies, is_text, lines, place_or_end, trim};
+use bulk_base::{
+    NoMemory, Sequence, Text, Texts, add_copies, is_text, lines, numbered_line, place_or_end, trim,
+};
 use std::alloc::Global;
 
 /// What stands before a line's comment.
@@ -45,13 +47,11 @@ fn listed(alloc: Global, bytes: &[u8]) -> Result<Texts, WantedError>
     let spans = lines(alloc, bytes)?;
     let mut found = Sequence::new(alloc);
     for at in 0..spans.len() {
-        let line = spans.as_slice()[at].of(bytes);
-        if !is_text(line) {
-            return Err(WantedError::BadList {
-                line: at as u32 + 1,
-            });
+        let line = numbered_line(bytes, &spans, at);
+        if !is_text(line.text) {
+            return Err(WantedError::BadList { line: line.number });
         }
-        take_line(alloc, &mut found, line)?;
+        take_line(alloc, &mut found, line.text)?;
     }
     Ok(found)
 }

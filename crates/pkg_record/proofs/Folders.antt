@@ -1,19 +1,24 @@
 -- Searches among files in order of their paths.
-use Rattle.std.proofs.Common.{◌≡◌, ◌↔◌, ℕ, ◌+◌, List, [], length, get_or, IsTrue, Contains, arith, sym, ap, refl, ◌∙◌, ⊎_elim}
+use Rattle.std.proofs.Common.{◌≡◌, ◌↔◌, ℕ, ◌+◌, ◌<◌, true, false, not, List, [], length, get_or, take, IsTrue, Contains, arith, sym, ap, refl, ◌∙◌, ⊎_elim, ◌⊎◌, inl, inr}
 use Rattle.std.specs.Prelude.{Result, Ok, Err}
 use Rattle.std.specs.declared.cmp.Ordering.TheVariants.{Less, Equal, Greater}
 use Rattle.std.specs.Ordering.{is_lt, is_eq, nat_cmp, ordering_reverse}
 use Rattle.std.specs.Result.{is_ok}
 use Rattle.std.specs.Cmp.Lexicographic.{slice_cmp}
+use Rattle.std.specs.List.{list_all}
 use Rattle.std.specs.List.Sorted.{IsSortedBy, IsBinarySearchResult, IsSearchInRange}
-use Rattle.std.proofs.lemmas.Bool.{cases_lt}
+use Rattle.std.proofs.lemmas.Bool.{cases_lt, cases_Bool}
 use Rattle.std.proofs.lemmas.Cmp.{nat_list_cmp_total, tied_itself}
 use Rattle.std.proofs.lemmas.Map.Text.{is_eq-slice_cmp}
 use Rattle.std.proofs.lemmas.Slice.Eq.{bytes_eq-Decides}
-use Rattle.std.proofs.lemmas.List.{length-map}
+use Rattle.std.proofs.lemmas.List.{length-map, get_or_default}
+use Rattle.std.proofs.lemmas.List.Sums.{list_all-from_AllPass}
+use Rattle.std.proofs.lemmas.List.Folds.{list_all_at}
 use Rattle.std.proofs.lemmas.List.Sorted.{searchable_from_sorted}
 use Rattle.std.proofs.lemmas.Map.Keys.{Less-from_sorted}
 use Rattle.std.proofs.Math.ListN.{get_or-map}
+use Rattle.bulk_base.specs.Path.{is_below}
+use Rattle.bulk_base.proofs.Above.{slash_behind, begins_below}
 use Rattle.bulk_base.specs.declared.file.FileItem.{FileItem}
 use Rattle.bulk_model.specs.Facts.{paths_of}
 use Rattle.outside.specs.Contents.{IsAscending}
@@ -46,3 +51,18 @@ searched_path files key (Err i) s within at =
     (λ high. let more : slice_cmp nat_cmp (get_or files c.0 d).path key ≡ Greater = cut.1 c.0 d high (omega (arith, c.1, length-map files path_of)) in let all : Greater ≡ Equal = sym more ∙ here in cc)
     (cases_lt c.0 i) in
     (λ e. cc, λ c. absurd (missed c))
+
+-- no folder of the path is among the paths, where none of its beginnings that end before a slash is
+pub none_above : (paths : List (List ℕ)) (path : List ℕ) → ((k : ℕ) → k < length path → get_or path k 0 ≡ 47 → Contains paths (take k path) → ⊥)
+    → list_all (λ folder. not (is_below folder path)) paths ≡ true
+none_above paths path h = list_all-from_AllPass (λ folder. not (is_below folder path)) paths (λ k d l. apart k d l (cases_Bool (is_below (get_or paths k d) path)))
+  where
+    apart : (k : ℕ) (d : List ℕ) → k < length paths → (is_below (get_or paths k d) path ≡ true) ⊎ (is_below (get_or paths k d) path ≡ false) → not (is_below (get_or paths k d) path) ≡ true
+    apart k d l (inl e) =
+        let s = slash_behind (get_or paths k d) path e in
+        absurd (h (length (get_or paths k d)) s.0 s.1 (k, l, get_or_default paths k _ d l ∙ sym s.2))
+    apart k d l (inr e) = ap not e
+
+-- a folder of the path is among the paths
+pub one_above : (paths : List (List ℕ)) (path : List ℕ) (k : ℕ) → k < length path → get_or path k 0 ≡ 47 → Contains paths (take k path) → list_all (λ folder. not (is_below folder path)) paths ≡ false
+one_above paths path k l e c = list_all_at (λ folder. not (is_below folder path)) paths c.0 (take k path) c.1 (ap (λ f. not (is_below f path)) c.2 ∙ ap not (begins_below path k l e))

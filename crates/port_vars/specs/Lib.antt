@@ -4,3 +4,4 @@ pub mod Reference
 pub mod Assignment
 pub mod Variables
 pub mod Answers
+pub mod ValueWords

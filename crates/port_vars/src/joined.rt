@@ -2,7 +2,7 @@
 ghost use Rattle.std.specs.Prelude.{◌≡◌, ◌<◌, ◌+◌, ◌^◌, ◌∷◌, ℕ, List, length, IfOk};
 ghost use Rattle.port_vars.specs.Joined.{ends_in_backslash, without_last, body, joined, next_line, whole};
 
-use bulk_base::{Bytes, NoMemory, Sequence, lines, trim_start};
+use bulk_base::{Bytes, NoMemory, Sequence, lines, numbered_line, trim_start};
 use std::alloc::Global;
 
 /// A joined line.
@@ -92,8 +92,8 @@ pub(crate) fn joined(alloc: Global, bytes: &[u8]) -> Result<Lines, NoMemory>
     let mut found = Sequence::new(alloc);
     let mut begun = None;
     for at in 0..spans.len() {
-        let line = spans.as_slice()[at].of(bytes);
-        begun = take_line(alloc, &mut found, begun, at as u32 + 1, line)?;
+        let line = numbered_line(bytes, &spans, at);
+        begun = take_line(alloc, &mut found, begun, line.number, line.text)?;
     }
     if let Some(line) = begun {
         found.push(line)?;

@@ -12,7 +12,9 @@ mod piece;
 mod reference;
 #[cfg(test)]
 mod tests;
+mod value_words;
 mod vars;
 
 pub use fault::{LineKind, VarsError};
+pub use value_words::words_in;
 pub use vars::{Vars, read_vars};

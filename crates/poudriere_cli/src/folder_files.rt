@@ -18,7 +18,7 @@ pub fn listed<R: Files + AllocGlobal + Clone + Drop>(
 ) -> Result<Paths, Outer>
     ensures { IfOk result (IsListing folder.now) }
 {
-    listing(files_below(rt, root, folder)?, folder)
+    listing(rt.alloc(), files_below(rt, root, folder)?, folder)
 }
 
 /// The first `most` bytes of a plain file; None where there is none. The path begins at `root`.

@@ -1,25 +1,27 @@
 // The test that what a disk lists is a listing: in byte order, each once, and for paths none a folder of another.
-ghost use Rattle.std.specs.Prelude.{◌≡◌, ◌↔◌, not, IsTrue, IfOk, IfErr, Contains};
+ghost use Rattle.std.specs.Prelude.{◌≡◌, ◌↔◌, IsTrue, IfOk, IfErr};
 ghost use Rattle.std.specs.List.{list_all};
 ghost use Rattle.std.specs.List.Sorted.{IsStrictlySortedBy};
+ghost use Rattle.bulk_base.specs.Order.{set_of};
 ghost use Rattle.bulk_base.specs.Path.{is_below};
 ghost use Rattle.std.specs.List.Sorted.{IsPermutation};
 ghost use Rattle.outside.specs.Contents.{IsAscending, IsListing, has_no_folder};
 ghost use Rattle.poudriere_cli.specs.Found.{HasTwice, IsNoListing};
 
-use bulk_base::{Path, Paths, Sequence, Text, Texts};
+use bulk_base::{NoMemory, Path, PathMap, Paths, Sequence, Text, Texts};
 use outside::Outer;
+use std::alloc::Global;
 
 /// The listing of the files below a folder that were found there, in any order. A fault where they make none: where
 /// one is not below the folder, stands there twice, or is a folder of another. NoMemory for want of memory alone.
 /// O(n log n) comparisons.
-pub fn listing(mut found: Vec<Path>, folder: &Path) -> Result<Paths, Outer>
+pub fn listing(alloc: Global, mut found: Vec<Path>, folder: &Path) -> Result<Paths, Outer>
     ensures listing { IfOk result (IsListing folder.now) }
     ensures found { IfOk result (IsPermutation found.items) }
     ensures fault { IfErr result (λ e. e ≡ Outer.Fault → IsNoListing folder.now found.items) }
 {
     found.sort()?;
-    if is_listing(found.as_slice(), folder) {
+    if is_listing(alloc, found.as_slice(), folder)? {
         Ok(Sequence::from_vec(found))
     } else {
         Err(Outer::Fault)
@@ -41,10 +43,13 @@ pub fn ascending(mut found: Vec<Text>) -> Result<Texts, Outer>
     }
 }
 
-fn is_listing(paths: &[Path], folder: &Path) -> bool
-    ensures { IsTrue result ↔ IsListing folder.now paths.now }
+fn is_listing(alloc: Global, paths: &[Path], folder: &Path) -> Result<bool, NoMemory>
+    ensures { IfOk result (λ is. IsTrue is ↔ IsListing folder.now paths.now) }
 {
-    is_ascending(paths) && are_below(paths, folder) && are_apart(paths)
+    if !is_ascending(paths) || !are_below(paths, folder) {
+        return Ok(false);
+    }
+    are_apart(alloc, paths)
 }
 
 /// Whether each item is below those after it.
@@ -60,41 +65,26 @@ fn are_below(paths: &[Path], folder: &Path) -> bool
     paths.iter().all(|path| path.is_below(folder))
 }
 
-/// Whether no path is a folder of another; in O(n log n) comparisons.
-fn are_apart(paths: &[Path]) -> bool
-    requires { IsAscending paths.now }
-    ensures { result ≡ has_no_folder paths.now }
+/// The paths as a set.
+fn path_set(alloc: Global, paths: &[Path]) -> Result<PathMap<()>, NoMemory>
+    ensures { IfOk result (λ set. set ≡ set_of paths.now) }
 {
-    have_free_folders(paths)
+    let mut set = PathMap::new(alloc);
+    for path in paths {
+        set.insert(path.copy(alloc)?, ())?;
+    }
+    Ok(set)
 }
 
-fn have_free_folders(paths: &[Path]) -> bool
-    requires { IsAscending paths.now }
-    ensures { result ≡ list_all (λ path. list_all (λ folder. not (is_below folder path)) paths.now) paths.now }
+/// Whether no path is a folder of another. O(log n) comparisons for each of the n paths.
+fn are_apart(alloc: Global, paths: &[Path]) -> Result<bool, NoMemory>
+    ensures { IfOk result (λ apart. apart ≡ has_no_folder paths.now) }
 {
-    paths.iter().all(|path| has_free_folders(paths, path))
-}
-
-/// Whether no folder of a path is among the paths.
-fn has_free_folders(paths: &[Path], path: &Path) -> bool
-    requires { IsAscending paths.now }
-    ensures { result ≡ list_all (λ folder. not (is_below folder path.now)) paths.now }
-{
-    let bytes = path.bytes();
-    for at in 0..bytes.len() {
-        if bytes[at] == b'/' && has_path(paths, &bytes[..at]) {
-            return false;
+    let set = path_set(alloc, paths)?;
+    for path in paths {
+        if set.has_below(alloc, path)? {
+            return Ok(false);
         }
     }
-    true
-}
-
-/// Whether one of the paths has these bytes.
-fn has_path(paths: &[Path], bytes: &[u8]) -> bool
-    requires { IsAscending paths.now }
-    ensures { IsTrue result ↔ Contains paths.now bytes.now }
-{
-    paths
-        .binary_search_by(|path| path.bytes().cmp(bytes))
-        .is_ok()
+    Ok(true)
 }

@@ -19,7 +19,7 @@ use Rattle.tree_index.specs.declared.node.Target.{Target}
 use Rattle.tree_index.specs.Places.{origin_name}
 use Rattle.tree_index.specs.Targets.{number_in, names_of, moved_to, place_of, target_of, targets_of, with_targets, aimed}
 use Rattle.tree_index.specs.Numbers.{Numbers, IsNumbering, AreOf}
-use Rattle.option_set.specs.Named.{in_order}
+use Rattle.bulk_base.specs.Order.{in_order}
 use Rattle.tree_index.specs.Index.{IndexView, index_with}
 use Rattle.tree_index.specs.Facts.{IsNodeInfo, AreTreeNodes, IsAtWithin, IsIndex, is_default_of}
 use Rattle.tree_index.proofs.Known.{number_within}

@@ -6,7 +6,6 @@ pub mod SameWords
 pub mod OneParts
 pub mod EnoughBytes
 pub mod Steps
-pub mod InOrder
 pub mod PortOptions
 pub mod PortForm
 pub mod Lists

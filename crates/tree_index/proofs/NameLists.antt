@@ -4,12 +4,12 @@ use Rattle.std.specs.Prelude.{find, Some, None, ◌&&◌, not, codes}
 use Rattle.std.specs.List.{AllByRecursion, list_all}
 use Rattle.std.proofs.lemmas.Option.{none-some}
 use Rattle.bulk_base.specs.Names.{is_port_name}
-use Rattle.option_set.specs.Named.{in_order}
+use Rattle.bulk_base.specs.Order.{in_order}
 use Rattle.tree_index.specs.declared.fault.IndexError.TheVariants.{BadPort}
 use Rattle.tree_index.specs.declared.fault.PortKind.TheVariants.{BadValue}
 use Rattle.tree_index.specs.Gathered.{IsNameList}
 use Rattle.tree_index.specs.VarFiles.{is_no_port_name, names_among}
-use Rattle.tree_index.proofs.InOrder.{list_all-in_order, in_order-ascends}
+use Rattle.bulk_base.proofs.InOrder.{list_all-in_order, in_order-ascends}
 
 all_pass : (words : List (List ℕ)) → find is_no_port_name words ≡ None → list_all is_port_name words ≡ true
 all_pass [] h = refl

@@ -14,12 +14,13 @@ use Rattle.port_desc.proofs.Refused.{same_ok, no_err}
 use Rattle.option_set.specs.declared.fault.OptionError.{OptionError}
 use Rattle.option_set.specs.declared.layers.Layers.{Layers}
 use Rattle.option_set.specs.Named.{is_option_name}
-use Rattle.option_set.specs.Defined.{defining, defining_words, option_words, options_of, words_in, groups_in, words_of_groups, members_of}
+use Rattle.option_set.specs.Defined.{defining, defining_words, option_words, options_of, groups_in, words_of_groups, members_of}
+use Rattle.port_vars.specs.ValueWords.{words_in}
 use Rattle.option_set.specs.Implied.{on_in}
 use Rattle.option_set.specs.Refused.{words_refused, state_refused, no_name, too_many, undefined, not_defined, naming_words}
 use Rattle.option_set.specs.Chosen.{chosen, switches, unless}
 use Rattle.port_name.specs.Sets.{is_among}
-use Rattle.tree_index.proofs.InOrder.{list_all-in_order, in_order-ascends}
+use Rattle.bulk_base.proofs.InOrder.{list_all-in_order, in_order-ascends}
 
 none_bad : (good : Bool) (word : List ℕ) (rest : Option (List ℕ)) → cond (not good) (Some word) rest ≡ None → (good ≡ true) × (rest ≡ None)
 none_bad true word rest h = (refl, h)

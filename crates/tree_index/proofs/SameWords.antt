@@ -10,7 +10,7 @@ use Rattle.std.specs.List.Sorted.{IsStrictlySortedBy}
 use Rattle.bulk_base.proofs.MapView.{order, view, entries-view}
 use Rattle.port_name.specs.Sets.{is_among}
 use Rattle.port_name.proofs.SetView.{among_keys}
-use Rattle.option_set.specs.Named.{Words, set_of, in_order}
+use Rattle.bulk_base.specs.Order.{TextSet as Words, set_of, in_order}
 
 insert_case : (t : Bool) (o : Option (Unit {0})) → is_some (cond t (Some tt) o) ≡ (t || is_some o)
 insert_case true o = refl

@@ -1,9 +1,9 @@
 -- What holds of every node of a ports tree, of the nodes of one port and of a whole tree, and of every index.
-use Rattle.std.specs.Prelude.{◌≡◌, ℕ, Bool, ◌&&◌, ◌<◌, ◌≤◌, List, length, map, filter, Result, IsTrue, IfSome, IsErrOf, bytes_eq}
+use Rattle.std.specs.Prelude.{◌≡◌, ℕ, Bool, true, false, ◌&&◌, ◌<◌, ◌≤◌, List, length, map, filter, Result, IsTrue, IfSome, bytes_eq}
 use Rattle.std.specs.List.{AllByRecursion, IsDistinct}
 use Rattle.bulk_base.specs.Names.{IsPackageName, is_port_name, is_flavor, node_of}
 use Rattle.outside.specs.Contents.{IsAscending}
-use Rattle.outside.specs.Faults.{Rose}
+use Rattle.outside.specs.Faults.{HasCauseBy}
 use Rattle.bulk_model.specs.Facts.{IsOptionList}
 use Rattle.port_name.specs.declared.place.Origin.{Origin}
 use Rattle.port_name.specs.Sets.{is_among}
@@ -61,8 +61,10 @@ pub record IsIndex (nodes : List NodeInfo) (names : List (List ℕ)) : Type 0 wh
   pub range : AllByRecursion (λ node. AllByRecursion (λ target. IsAtWithin (length nodes) target.at) node.targets) nodes
   pub known : (name : List ℕ) → is_among names name ≡ is_among (names_of nodes) name
 
+abbrev pub is_tree_fault : IndexError → Bool
+is_tree_fault TreeFault = true
+is_tree_fault _ = false
+
 -- the count of the tree's faults never falls, a fault is answered only where it rose, and any other answer leaves it
-pub record IsCaused {X : Type 0} (before now : ℕ) (result : Result X IndexError) : Type 0 where
-  pub later : before ≤ now
-  pub failed : IsErrOf result TreeFault → Rose before now
-  pub kept : (IsErrOf result TreeFault → ⊥) → now ≡ before
+abbrev pub IsCaused : {X : Type 0} → ℕ → ℕ → Result X IndexError → Type 0
+IsCaused before now result = HasCauseBy is_tree_fault before now result

@@ -6,7 +6,7 @@ use Rattle.outside.specs.Contents.{Contents}
 use Rattle.port_vars.specs.Assignment.{◌>>=◌}
 use Rattle.conf_file.specs.declared.make.MakeConf.{MakeConf}
 use Rattle.moved_list.specs.declared.line.MovedLine.{MovedLine}
-use Rattle.option_set.specs.Named.{in_order}
+use Rattle.bulk_base.specs.Order.{in_order}
 use Rattle.tree_index.specs.declared.fault.IndexError.{IndexError}
 use Rattle.tree_index.specs.declared.node.NodeInfo.{NodeInfo}
 use Rattle.tree_index.specs.Tree.{Listed, tree_nodes}

@@ -9,8 +9,8 @@ use Rattle.bulk_base.specs.Names.{is_port_name}
 use Rattle.outside.specs.Contents.{Contents}
 use Rattle.port_vars.specs.Variables.{Vars, variables_of}
 use Rattle.port_vars.specs.Assignment.{◌>>=◌}
-use Rattle.option_set.specs.Defined.{words_in}
-use Rattle.option_set.specs.Named.{in_order}
+use Rattle.port_vars.specs.ValueWords.{words_in}
+use Rattle.bulk_base.specs.Order.{in_order}
 use Rattle.tree_index.specs.declared.fault.PortKind.TheVariants.{Absent, BadValue}
 use Rattle.tree_index.specs.declared.fault.IndexError.{IndexError}
 use Rattle.tree_index.specs.declared.fault.IndexError.TheVariants.{BadPort}

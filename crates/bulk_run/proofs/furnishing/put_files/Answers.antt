@@ -1,4 +1,4 @@
-use Rattle.std.proofs.Common.{◌∙◌, ap, codes}
+use Rattle.std.proofs.Common.{refl, ◌∙◌, ap, codes}
 use Rattle.bulk_base.specs.Text.{is_text}
 use Rattle.bulk_run.proofs.FolderNames.{is_text-work}
 use Rattle.bulk_run.proofs.Placed.{free_in_loop, placed_in_loop, short_in_loop}
@@ -23,5 +23,5 @@ loop-file-preserved g c = record {
       c.loop-file-test.true (record { order = c.requires.files.order; apart = c.requires.files.apart }) c.file-item.is (c.in_ok-work.ensures ∙ c.as_slice.ensures) c.in_ok-path.ensures c.as_slice-in-loop-file.ensures
       (c.loop-file.invariant.told t) (c.in_ok-put.ensures.told t);
   begun = c.in_ok-put.ensures.begun ∙ c.loop-file.invariant.begun;
-  quiet = c.in_ok-put.ensures.cause.kept (λ h. cc) ∙ c.loop-file.invariant.quiet;
+  quiet = c.in_ok-put.ensures.cause.kept refl ∙ c.loop-file.invariant.quiet;
 }

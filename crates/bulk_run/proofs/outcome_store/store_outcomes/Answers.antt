@@ -1,4 +1,4 @@
-use Rattle.std.proofs.Common.{◌∙◌}
+use Rattle.std.proofs.Common.{refl, ◌∙◌}
 use Rattle.bulk_run.proofs.PortsBuilt.{stored_more, kept_more}
 use Rattle.bulk_run.proofs.outcome_store.store_outcomes.Goals as goal
 
@@ -12,5 +12,5 @@ loop-outcome-preserved g c = record {
   told = λ t.
       stored_more c.args.outcomes.now c.loop-outcome.outcome-index c.outcome-item.result (g.S.Store.content c.args.store.now) (g.S.Store.content c.loop-outcome.store) (g.S.Store.content c.store_outcome.new.store)
       c.loop-outcome-test.true c.outcome-item.is (c.loop-outcome.invariant.told t) (c.in_ok-store_outcome.ensures.told t);
-  quiet = c.in_ok-store_outcome.ensures.cause.kept (λ h. cc) ∙ c.loop-outcome.invariant.quiet;
+  quiet = c.in_ok-store_outcome.ensures.cause.kept refl ∙ c.loop-outcome.invariant.quiet;
 }

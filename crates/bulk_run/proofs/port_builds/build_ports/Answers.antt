@@ -1,4 +1,4 @@
-use Rattle.std.proofs.Common.{◌∙◌, inl}
+use Rattle.std.proofs.Common.{refl, ◌∙◌, inl}
 use Rattle.bulk_run.proofs.PortsBuilt.{in_error, builds_more, names_more, began_more}
 use Rattle.bulk_run.proofs.port_builds.build_ports.Goals as goal
 
@@ -20,5 +20,5 @@ loop-job-preserved g c = record {
   begun =
       names_more c.args.jobs.now c.loop-job.job-index c.job-item.result (g.R.Room.begun c.args.room.now) (g.R.Room.begun c.loop-job.room) (g.R.Room.begun c.build_port.new.room)
       c.loop-job-test.true c.job-item.is c.loop-job.invariant.begun c.in_ok-outcome.ensures.begun;
-  quiet = c.in_ok-outcome.ensures.cause.kept (λ h. cc) ∙ c.loop-job.invariant.quiet;
+  quiet = c.in_ok-outcome.ensures.cause.kept refl ∙ c.loop-job.invariant.quiet;
 }

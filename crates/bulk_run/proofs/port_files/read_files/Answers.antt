@@ -43,7 +43,7 @@ loop-path-preserved g c = record {
       c.loop-path-test.true c.path-item.is (some_fact (λ f. f.path ≡ rest_of c.args.folder.now c.path-item.result) c.in_ok-taken.taken c.in-Some.found c.in-Some.is c.in_ok-taken.ensures.path) c.in_ok-push_found-in-Some.ensures c.loop-path.invariant.form;
   short = short_so_far 1019 c.loop-path.files c.push_found.new.files c.in-Some.found (some_fact (λ f. length f.path ≤ 1019) c.in_ok-taken.taken c.in-Some.found c.in-Some.is c.in_ok-taken.ensures.short) c.in_ok-push_found-in-Some.ensures c.loop-path.invariant.short;
   same = c.in_ok-taken.ensures.same ∙ c.loop-path.invariant.same;
-  quiet = c.in_ok-taken.ensures.cause.kept (λ h. cc) ∙ c.loop-path.invariant.quiet;
+  quiet = c.in_ok-taken.ensures.cause.kept refl ∙ c.loop-path.invariant.quiet;
 }
 
 pub returns-clause-told : goal.returns-clause-told

@@ -33,7 +33,7 @@ loop-path-preserved g c = record {
       c.loop-path-test.true c.path-item.is c.in_ok-found.ensures.path c.in_ok-push_found.ensures c.loop-path.invariant.form;
   short = short_so_far 1018 c.loop-path.files c.push_found.new.files c.in_ok-found.found c.in_ok-found.ensures.short c.in_ok-push_found.ensures c.loop-path.invariant.short;
   begun = c.in_ok-found.ensures.begun ∙ c.loop-path.invariant.begun;
-  quiet = c.in_ok-found.ensures.cause.kept (λ h. cc) ∙ c.loop-path.invariant.quiet;
+  quiet = c.in_ok-found.ensures.cause.kept refl ∙ c.loop-path.invariant.quiet;
 }
 
 pub returns-clause-told : goal.returns-clause-told

@@ -2,7 +2,7 @@ use Rattle.std.proofs.Common.{◌≡◌, ◌<◌, List, Some, None, length, sym,
 use Rattle.std.specs.Prelude.{filter}
 use Rattle.bulk_model.specs.declared.plan.Edge.{Edge}
 use Rattle.dep_graph.specs.Graphs.{IsGraph, IsWithin, nodes_of}
-use Rattle.loop_report.specs.Walks.{least}
+use Rattle.bulk_base.specs.Least.{least}
 use Rattle.loop_report.specs.Loops.{stays, IsLoop}
 use Rattle.loop_report.proofs.GoingOn.{first_is}
 use Rattle.loop_report.proofs.Reporting.{loopless_where_none, loop_where_some, first_found, numbers_inside, numbers_size, exact_found, is_exact_loop}

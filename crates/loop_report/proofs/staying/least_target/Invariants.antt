@@ -1,6 +1,6 @@
 use Rattle.std.proofs.Common.{◌≡◌, false, take, filter, slice_index_or}
 use Rattle.dep_graph.specs.Graphs.{targets}
-use Rattle.loop_report.specs.Walks.{least}
+use Rattle.bulk_base.specs.Least.{least}
 use Rattle.loop_report.proofs.staying.least_target.Given as goal
 
 abbrev pub invariant-loop-edge : goal.invariant-loop-edge

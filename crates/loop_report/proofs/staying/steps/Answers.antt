@@ -2,7 +2,7 @@ use Rattle.std.proofs.Common.{false, [], ap, filter, slice_index_or, ◌∙◌}
 use Rattle.std.specs.Option.{unwrap_or}
 use Rattle.std.proofs.lemmas.List.{get_or_read}
 use Rattle.dep_graph.specs.Graphs.{targets}
-use Rattle.loop_report.specs.Walks.{least}
+use Rattle.bulk_base.specs.Least.{least}
 use Rattle.loop_report.specs.Loops.{next_among}
 use Rattle.loop_report.proofs.Choosing.{mapped_more}
 use Rattle.loop_report.proofs.staying.steps.Goals as goal

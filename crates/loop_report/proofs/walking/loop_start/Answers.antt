@@ -3,7 +3,8 @@ use Rattle.std.specs.Fn.{iterate}
 use Rattle.std.specs.List.{All}
 use Rattle.std.specs.Option.{unwrap_or}
 use Rattle.std.proofs.lemmas.List.Elements.{All-get_or}
-use Rattle.loop_report.specs.Walks.{least, round}
+use Rattle.bulk_base.specs.Least.{least}
+use Rattle.loop_report.specs.Walks.{round}
 use Rattle.loop_report.proofs.Repeating.{least_repeated, least_below}
 use Rattle.loop_report.proofs.walking.loop_start.Goals as goal
 

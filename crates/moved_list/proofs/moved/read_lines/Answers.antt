@@ -1,29 +1,28 @@
-use Rattle.std.proofs.Common.{◌≡◌, true, false, length, arith, rules}
+use Rattle.std.proofs.Common.{◌≡◌, ◌∙◌, true, false, List, ℕ, [], Err, length, ap, sym, arith, rules}
 use Rattle.std.specs.Str.Lines.{lines}
+use Rattle.std.proofs.lemmas.List.{get_or_default}
+use Rattle.moved_list.specs.declared.fault.MovedError.TheVariants.{BadLine}
 use Rattle.moved_list.specs.Lines.{is_moved_line}
-use Rattle.bulk_base.proofs.Sizes.{length-lines, spans_are, line_is}
+use Rattle.bulk_base.proofs.Sizes.{spans_are}
 use Rattle.moved_list.proofs.Read.{read_line, read_fault, read_all}
 use Rattle.moved_list.proofs.moved.read_lines.Goals as goal
-
-pub overflow_cast-result : goal.overflow_cast-result
-overflow_cast-result c = record { fits = omega (arith, c.requires, length-lines c.args.bytes.now, spans_are c.args.bytes.now c.in_ok-spans.spans c.in_ok-spans.ensures.text) }
-
-pub overflow_add-result : goal.overflow_add-result
-overflow_add-result c = record { fits = omega (arith, c.requires, length-lines c.args.bytes.now, spans_are c.args.bytes.now c.in_ok-spans.spans c.in_ok-spans.ensures.text) }
 
 pub returns-then-not-is_moved_line-clause-bad_line : goal.returns-then-not-is_moved_line-clause-bad_line
 returns-then-not-is_moved_line-clause-bad_line c = λ some.
     let size : length c.in_ok-spans.spans ≡ length (lines c.args.bytes.now) = spans_are c.args.bytes.now c.in_ok-spans.spans c.in_ok-spans.ensures.text in
-    let bad : is_moved_line c.of-line.result.now ≡ false = search rules in
-    read_fault (lines c.args.bytes.now) c.loop-at.at c.of-line.result.now c.loop-at.found (omega arith)
-    (line_is c.args.bytes.now c.in_ok-spans.spans c.as_slice.result.now c.loop-at.at c.of-line.result.now c.in_ok-spans.ensures.text c.as_slice.ensures (omega arith) c.of-line.ensures) bad c.loop-at.invariant
+    let text : List ℕ = c.numbered_line-line.result.text.now in
+    let bad : is_moved_line text ≡ false = search rules in
+    read_fault (lines c.args.bytes.now) c.loop-at.at text c.loop-at.found (omega arith)
+    (c.numbered_line-line.ensures.text ∙ get_or_default (lines c.args.bytes.now) c.loop-at.at [] text (omega arith)) bad c.loop-at.invariant
+    ∙ ap (λ n. Err (BadLine n)) (sym c.numbered_line-line.ensures.number)
 
 pub loop-at-preserved : goal.loop-at-preserved
 loop-at-preserved c =
     let size : length c.in_ok-spans.spans ≡ length (lines c.args.bytes.now) = spans_are c.args.bytes.now c.in_ok-spans.spans c.in_ok-spans.ensures.text in
-    let good : is_moved_line c.of-line.result.now ≡ true = search rules in
-    read_line (lines c.args.bytes.now) c.loop-at.at c.of-line.result.now c.loop-at.found c.take_line.new.found (omega arith)
-    (line_is c.args.bytes.now c.in_ok-spans.spans c.as_slice.result.now c.loop-at.at c.of-line.result.now c.in_ok-spans.ensures.text c.as_slice.ensures (omega arith) c.of-line.ensures) good c.in_ok-take_line.ensures c.loop-at.invariant
+    let text : List ℕ = c.numbered_line-line.result.text.now in
+    let good : is_moved_line text ≡ true = search rules in
+    read_line (lines c.args.bytes.now) c.loop-at.at text c.loop-at.found c.take_line.new.found (omega arith)
+    (c.numbered_line-line.ensures.text ∙ get_or_default (lines c.args.bytes.now) c.loop-at.at [] text (omega arith)) good c.in_ok-take_line.ensures c.loop-at.invariant
 
 pub returns-clause-ok : goal.returns-clause-ok
 returns-clause-ok c =

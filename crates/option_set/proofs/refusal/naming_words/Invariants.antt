@@ -1,7 +1,7 @@
 use Rattle.std.proofs.Common.{◌≡◌, ◌++◌, take}
 use Rattle.std.specs.Prelude.{codes}
 use Rattle.std.specs.List.{flat_map}
-use Rattle.option_set.specs.Defined.{words_in}
+use Rattle.port_vars.specs.ValueWords.{words_in}
 use Rattle.option_set.specs.Implied.{implied_by}
 use Rattle.option_set.specs.Refused.{prevented_by}
 use Rattle.option_set.proofs.refusal.naming_words.Given as goal

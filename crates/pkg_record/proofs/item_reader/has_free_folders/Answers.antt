@@ -1,7 +1,7 @@
 use Rattle.std.proofs.Common.{arith}
 use Rattle.std.proofs.lemmas.Grind.{common_steps}
 use Rattle.bulk_model.specs.Facts.{paths_of}
-use Rattle.bulk_base.proofs.Above.{none_above, one_above}
+use Rattle.pkg_record.proofs.Folders.{none_above, one_above}
 use Rattle.pkg_record.proofs.item_reader.has_free_folders.Goals as goal
 
 pub returns-then-has_path : goal.returns-then-has_path

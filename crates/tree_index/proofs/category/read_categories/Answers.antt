@@ -58,5 +58,5 @@ loop-category-preserved g c =
       before = still_before category_of categories at category nodes found now (subst IsNameList (sym c.as_slice-category-items.ensures) c.requires) within c.category-item.is
           c.in_ok-read_category.ensures.category more c.loop-category.invariant.before;
       same = c.in_ok-read_category.ensures.same ∙ c.loop-category.invariant.same;
-      quiet = c.in_ok-read_category.ensures.cause.kept (λ h. cc) ∙ c.loop-category.invariant.quiet;
+      quiet = c.in_ok-read_category.ensures.cause.kept refl ∙ c.loop-category.invariant.quiet;
     }

@@ -67,5 +67,5 @@ loop-port-preserved g c =
       before = still_before port_of ports at port nodes found now (subst IsNameList (sym c.as_slice-port-items.ensures) c.requires.ports) within c.port-item.is
           (port_here origin found port c.in_ok-origin.ensures.port c.in_ok-read_port.ensures.form) more c.loop-port.invariant.before;
       same = c.in_ok-read_port.ensures.same ∙ c.loop-port.invariant.same;
-      quiet = c.in_ok-read_port.ensures.cause.kept (λ h. cc) ∙ c.loop-port.invariant.quiet;
+      quiet = c.in_ok-read_port.ensures.cause.kept refl ∙ c.loop-port.invariant.quiet;
     }

@@ -1,7 +1,7 @@
 use Rattle.std.proofs.Common.{◌≡◌, ◌∙◌, ap, sym, subst, Ok, Err}
 use Rattle.std.specs.Prelude.{find, None}
 use Rattle.std.specs.Option.{option_copied}
-use Rattle.option_set.specs.Named.{in_order}
+use Rattle.bulk_base.specs.Order.{in_order}
 use Rattle.tree_index.specs.declared.fault.IndexError.TheVariants.{BadPort}
 use Rattle.tree_index.specs.declared.fault.PortKind.TheVariants.{BadValue}
 use Rattle.tree_index.specs.Gathered.{IsNameList}

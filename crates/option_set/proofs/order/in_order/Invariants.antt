@@ -1,6 +1,0 @@
-use Rattle.std.proofs.Common.{◌≡◌, take}
-use Rattle.option_set.specs.Named.{set_of}
-use Rattle.option_set.proofs.order.in_order.Given as goal
-
-abbrev pub invariant-loop-word : goal.invariant-loop-word
-invariant-loop-word l = l.set ≡ set_of (take l.word-index l.words)
