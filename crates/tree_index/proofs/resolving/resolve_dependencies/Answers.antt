@@ -5,14 +5,14 @@ use Rattle.std.proofs.lemmas.List.{map-append, map-id}
 use Rattle.std.proofs.lemmas.Iterator.Adapters.{YieldsList-from_vec}
 use Rattle.std.proofs.lemmas.Iterator.Consumers.{YieldsList-end}
 use Rattle.tree_index.specs.Targets.{targets_of, with_targets}
-use Rattle.tree_index.proofs.aiming.aim_nodes.Goals as goal
+use Rattle.tree_index.proofs.resolving.resolve_dependencies.Goals as goal
 
 pub loop-info-preserved : goal.loop-info-preserved
 loop-info-preserved c = λ all those.
     let moved = c.args.moved.now in
     c.in_ok-push.ensures.ok
-    ∙ ap (λ found. found ++ c.in_ok-aim_node.field-0 ∷ []) (c.loop-info.invariant all those)
-    ∙ ap (λ info. map (λ node. with_targets node (targets_of all moved node)) c.loop-info.yielded ++ info ∷ []) (c.in_ok-aim_node.ensures all those)
+    ∙ ap (λ found. found ++ c.in_ok-resolve_node.field-0 ∷ []) (c.loop-info.invariant all those)
+    ∙ ap (λ info. map (λ node. with_targets node (targets_of all moved node)) c.loop-info.yielded ++ info ∷ []) (c.in_ok-resolve_node.ensures all those)
     ∙ sym (map-append (λ node. with_targets node (targets_of all moved node)) c.loop-info.yielded (c.in-Some.info ∷ []))
 
 pub returns : goal.returns

@@ -1,7 +1,7 @@
 // Where the dependencies of nodes lead.
 ghost use Rattle.std.specs.Prelude.{◌≡◌, List, map, IfOk};
 ghost use Rattle.tree_index.specs.declared.node.NodeInfo.{NodeInfo as Info};
-ghost use Rattle.tree_index.specs.Targets as aims;
+ghost use Rattle.tree_index.specs.Targets as dependencies;
 ghost use Rattle.tree_index.specs.Targets.{target_of, with_targets};
 ghost use Rattle.tree_index.specs.Numbers.{AreOf};
 
@@ -13,8 +13,8 @@ use port_name::Names;
 use std::alloc::Global;
 
 /// Where a name that means no node leads, by where MOVED leads it.
-fn moved_to(alloc: Global, name: &Text, answer: Follow) -> Result<At, NoMemory>
-    ensures { IfOk result (λ at. at ≡ aims.moved_to name.now answer) }
+fn resolve_by_moved(alloc: Global, name: &Text, answer: Follow) -> Result<At, NoMemory>
+    ensures { IfOk result (λ at. at ≡ dependencies.moved_to name.now answer) }
 {
     match answer {
         Follow::At(new) => Ok(At::Moved {
@@ -26,23 +26,23 @@ fn moved_to(alloc: Global, name: &Text, answer: Follow) -> Result<At, NoMemory>
 }
 
 /// Where a name leads: to the node that it means, else where MOVED leads it.
-fn place_of(
+fn resolve_name(
     alloc: Global,
     numbers: &TextMap<u32>,
     names: &Names,
     moved: &Moved,
     name: &Text,
 ) -> Result<At, NoMemory>
-    ensures { IfOk result (λ at. (nodes : List Info) → AreOf nodes numbers.now names.now → at ≡ aims.place_of nodes moved.now name.now) }
+    ensures { IfOk result (λ at. (nodes : List Info) → AreOf nodes numbers.now names.now → at ≡ dependencies.destination nodes moved.now name.now) }
 {
     match numbers.get(name) {
         Some(number) => Ok(At::Node(*number)),
-        None => moved_to(alloc, name, follow(alloc, moved, name, names)?),
+        None => resolve_by_moved(alloc, name, follow(alloc, moved, name, names)?),
     }
 }
 
 /// The targets of entries, one by one.
-fn targets_of(
+fn resolve_entries(
     alloc: Global,
     numbers: &TextMap<u32>,
     names: &Names,
@@ -55,23 +55,23 @@ fn targets_of(
     for entry in entries {
         targets.push(Target {
             kind: entry.kind,
-            at: place_of(alloc, numbers, names, moved, &entry.target)?,
+            at: resolve_name(alloc, numbers, names, moved, &entry.target)?,
         })?;
     }
     Ok(targets)
 }
 
 /// A node with the targets of its entries.
-fn aim_node(
+fn resolve_node(
     alloc: Global,
     numbers: &TextMap<u32>,
     names: &Names,
     moved: &Moved,
     mut info: NodeInfo,
 ) -> Result<NodeInfo, NoMemory>
-    ensures { IfOk result (λ aimed. (nodes : List Info) → AreOf nodes numbers.now names.now → aimed ≡ with_targets info (aims.targets_of nodes moved.now info)) }
+    ensures { IfOk result (λ resolved. (nodes : List Info) → AreOf nodes numbers.now names.now → resolved ≡ with_targets info (dependencies.targets_of nodes moved.now info)) }
 {
-    info.targets = targets_of(alloc, numbers, names, moved, info.desc.entries.as_slice())?;
+    info.targets = resolve_entries(alloc, numbers, names, moved, info.desc.entries.as_slice())?;
     Ok(info)
 }
 
@@ -79,18 +79,18 @@ fn aim_node(
 ///
 /// NoMemory for want of memory alone. Each target costs a look-up of its name, and where it means no node one more for
 /// each name that MOVED leads it to.
-pub(crate) fn aim_nodes(
+pub(crate) fn resolve_dependencies(
     alloc: Global,
     numbers: &TextMap<u32>,
     names: &Names,
     moved: &Moved,
     nodes: NodeInfos,
 ) -> Result<NodeInfos, NoMemory>
-    ensures { IfOk result (λ aimed. (all : List Info) → AreOf all numbers.now names.now → aimed ≡ map (λ node. with_targets node (aims.targets_of all moved.now node)) nodes) }
+    ensures { IfOk result (λ resolved. (all : List Info) → AreOf all numbers.now names.now → resolved ≡ map (λ node. with_targets node (dependencies.targets_of all moved.now node)) nodes) }
 {
-    let mut aimed = Sequence::new(alloc);
+    let mut resolved = Sequence::new(alloc);
     for info in nodes.into_vec() {
-        aimed.push(aim_node(alloc, numbers, names, moved, info)?)?;
+        resolved.push(resolve_node(alloc, numbers, names, moved, info)?)?;
     }
-    Ok(aimed)
+    Ok(resolved)
 }

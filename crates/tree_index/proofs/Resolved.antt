@@ -17,7 +17,7 @@ use Rattle.tree_index.specs.declared.node.At.{At}
 use Rattle.tree_index.specs.declared.node.At.TheVariants.{Node}
 use Rattle.tree_index.specs.declared.node.Target.{Target}
 use Rattle.tree_index.specs.Places.{origin_name}
-use Rattle.tree_index.specs.Targets.{number_in, names_of, moved_to, place_of, target_of, targets_of, with_targets, aimed}
+use Rattle.tree_index.specs.Targets.{number_in, names_of, moved_to, destination, target_of, targets_of, with_targets, resolved}
 use Rattle.tree_index.specs.Numbers.{Numbers, IsNumbering, AreOf}
 use Rattle.option_set.specs.Named.{in_order}
 use Rattle.tree_index.specs.Index.{IndexView, index_with}
@@ -29,17 +29,17 @@ abbrev led_by : List NodeInfo → List MovedLine → List ℕ → Option ℕ →
 led_by nodes moved name (Some n) = Node n
 led_by nodes moved name None = moved_to name (leads_to (names_of nodes) moved name)
 
-led_by_number : (nodes : List NodeInfo) (moved : List MovedLine) (name : List ℕ) (o : Option ℕ) → number_in nodes name ≡ o → led_by nodes moved name o ≡ place_of nodes moved name
+led_by_number : (nodes : List NodeInfo) (moved : List MovedLine) (name : List ℕ) (o : Option ℕ) → number_in nodes name ≡ o → led_by nodes moved name o ≡ destination nodes moved name
 led_by_number nodes moved name o h = ap (led_by nodes moved name) (sym h)
 
 -- a name that has a number leads to that node
 pub place_numbered : (nodes : List NodeInfo) (numbers : Numbers) (names : List (List ℕ)) (moved : List MovedLine) (name : List ℕ) (n : ℕ) → get numbers name ≡ Some n
-    → AreOf nodes numbers names → Node n ≡ place_of nodes moved name
+    → AreOf nodes numbers names → Node n ≡ destination nodes moved name
 place_numbered nodes numbers names moved name n h those = led_by_number nodes moved name (Some n) (sym (those.numbering name) ∙ h)
 
 -- a name that has no number leads where MOVED leads it
 pub place_moved : (nodes : List NodeInfo) (numbers : Numbers) (names : List (List ℕ)) (moved : List MovedLine) (name : List ℕ) → get numbers name ≡ None
-    → AreOf nodes numbers names → moved_to name (leads_to names moved name) ≡ place_of nodes moved name
+    → AreOf nodes numbers names → moved_to name (leads_to names moved name) ≡ destination nodes moved name
 place_moved nodes numbers names moved name h those =
     ap (moved_to name) (leads_alike names (names_of nodes) those.known moved name) ∙ led_by_number nodes moved name None (sym (those.numbering name) ∙ h)
 
@@ -107,19 +107,19 @@ module _ (targets : NodeInfo → List Target) where
         (λ node one. kept_count (is_default_of node.origin) (λ _. refl) nodes ∙ one) nodes tree.one_default;
   }
 
-aimed_within : (all : List NodeInfo) (moved : List MovedLine) (nodes : List NodeInfo)
+resolved_within : (all : List NodeInfo) (moved : List MovedLine) (nodes : List NodeInfo)
     → AllByRecursion (λ node. AllByRecursion (λ target. IsAtWithin (length all) target.at) node.targets) (map (λ node. with_targets node (targets_of all moved node)) nodes)
-aimed_within all moved [] = tt
-aimed_within all moved (node ∷ nodes) = (targets_within all moved node.desc.entries, aimed_within all moved nodes)
+resolved_within all moved [] = tt
+resolved_within all moved (node ∷ nodes) = (targets_within all moved node.desc.entries, resolved_within all moved nodes)
 
 -- the nodes of a tree with targets, and all their names, are an index
 pub index_made : (nodes : List NodeInfo) (names : List (List ℕ)) (moved : List MovedLine) → AreTreeNodes nodes
-    → ((name : List ℕ) → is_among names name ≡ is_among (names_of nodes) name) → IsIndex (aimed nodes moved) names
+    → ((name : List ℕ) → is_among names name ≡ is_among (names_of nodes) name) → IsIndex (resolved nodes moved) names
 index_made nodes names moved tree known = record {
   tree = tree_kept (targets_of nodes moved) nodes tree;
   range =
-      subst (λ count. AllByRecursion (λ node. AllByRecursion (λ target. IsAtWithin count target.at) node.targets) (aimed nodes moved))
-      (sym (length-map nodes (λ node. with_targets node (targets_of nodes moved node)))) (aimed_within nodes moved nodes);
+      subst (λ count. AllByRecursion (λ node. AllByRecursion (λ target. IsAtWithin count target.at) node.targets) (resolved nodes moved))
+      (sym (length-map nodes (λ node. with_targets node (targets_of nodes moved node)))) (resolved_within nodes moved nodes);
   known = λ name. known name ∙ ap (λ all. is_among all name) (sym (kept_names (targets_of nodes moved) nodes));
 }
 
@@ -133,6 +133,6 @@ abbrev view_of : List NodeInfo → List MovedLine → List (List ℕ) → IndexV
 view_of nodes moved names = record { nodes = nodes; moved = moved; names = names }
 
 -- an index is known by its nodes and names
-pub index_is : (listed nodes : List NodeInfo) (names : List (List ℕ)) (moved : List MovedLine) → nodes ≡ aimed listed moved → names ≡ in_order (names_of listed)
+pub index_is : (listed nodes : List NodeInfo) (names : List (List ℕ)) (moved : List MovedLine) → nodes ≡ resolved listed moved → names ≡ in_order (names_of listed)
     → view_of nodes moved names ≡ index_with (moved, listed)
-index_is listed nodes names moved p q = ap (λ some. view_of some moved names) p ∙ ap (view_of (aimed listed moved) moved) q
+index_is listed nodes names moved p q = ap (λ some. view_of some moved names) p ∙ ap (view_of (resolved listed moved) moved) q
