@@ -6,8 +6,8 @@ use Rattle.std.proofs.lemmas.Map.Made.{is_some-lookup}
 use Rattle.indexmap.specs.IndexMap.{keys, values}
 use Rattle.bulk_model.specs.declared.reason.Notice.{Notice}
 use Rattle.origin_flavor.specs.Notices.{with_notice}
-use Rattle.origin_flavor.proofs.ToldView.{any_key, entries_more, texts_push, values_push, told_more, told_same}
-use Rattle.origin_flavor.proofs.told.Told.add.Goals as goal
+use Rattle.origin_flavor.proofs.NoticesView.{any_key, entries_more, texts_push, values_push, told_more, told_same}
+use Rattle.origin_flavor.proofs.notice_list.NoticeList.add.Goals as goal
 
 abbrev word_of : Notice → List ℕ
 word_of notice = notice.word

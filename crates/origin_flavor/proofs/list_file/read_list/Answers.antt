@@ -3,7 +3,7 @@ use Rattle.std.specs.Str.Lines.{lines}
 use Rattle.bulk_base.specs.Text.{is_text}
 use Rattle.bulk_base.proofs.Sizes.{length-lines, spans_are, line_is}
 use Rattle.origin_flavor.proofs.Listed.{listed_line, listed_fault, listed_all}
-use Rattle.origin_flavor.proofs.list_file.listed.Goals as goal
+use Rattle.origin_flavor.proofs.list_file.read_list.Goals as goal
 
 pub overflow_cast-result : goal.overflow_cast-result
 overflow_cast-result c = record { fits = omega (arith, c.requires, length-lines c.args.bytes.now, spans_are c.args.bytes.now c.in_ok-spans.spans c.in_ok-spans.ensures.text) }

@@ -10,11 +10,11 @@ use std::marker::Model;
 
 /// Notices, each of another word, by their words; seen by contracts as the list of them in the order in which they came.
 #[derive(Drop)]
-pub(crate) struct Told {
+pub(crate) struct NoticeList {
     notices: IndexMap<String, Notice>,
 }
 
-impl Model for Told {
+impl Model for NoticeList {
     ghost use Rattle.std.specs.Prelude.{◌≡◌, List, map};
     ghost use Rattle.std.specs.String.{string_bytes};
     ghost use Rattle.indexmap.specs.IndexMap.{keys, values};
@@ -27,12 +27,12 @@ impl Model for Told {
     ghost invariant = { λ t. map string_bytes (keys t.notices) ≡ map (λ notice. notice.word) (values t.notices) };
 }
 
-impl Told {
+impl NoticeList {
     /// No notices; takes no memory.
-    pub(crate) fn new(alloc: Global) -> Told
+    pub(crate) fn new(alloc: Global) -> NoticeList
         ensures { result ≡ [] }
     {
-        Told {
+        NoticeList {
             notices: IndexMap::new(alloc),
         }
     }
@@ -57,7 +57,7 @@ impl Told {
     pub(crate) fn into_notices(self, alloc: Global) -> Result<Notices, NoMemory>
         ensures { IfOk result (λ notices. notices ≡ self) }
     {
-        let Told { notices } = self;
+        let NoticeList { notices } = self;
         let mut found = Sequence::new(alloc);
         for notice in notices.into_values() {
             found.push(notice)?;
