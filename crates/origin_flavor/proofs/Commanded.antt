@@ -10,8 +10,6 @@ use Rattle.origin_flavor.specs.declared.answer.Answer.{Answer}
 use Rattle.origin_flavor.specs.declared.selection.Wanted.{Wanted}
 use Rattle.origin_flavor.specs.ListFile.{wanted_words}
 use Rattle.origin_flavor.specs.Answers.{answers_of}
-use Rattle.origin_flavor.specs.Nodes.{wanted_numbers}
-use Rattle.origin_flavor.specs.Notices.{notices_of}
 use Rattle.origin_flavor.specs.Command.{wanted_by, wanted_of}
 
 module _ (index : IndexView) (list : Option (List ℕ)) (words : List (List ℕ)) (all every_flavor : Bool) where
@@ -28,9 +26,6 @@ module _ (index : IndexView) (list : Option (List ℕ)) (words : List (List ℕ)
   pub refused_word : (asked : List (List ℕ)) (error : WantedError) → wanted_words list words ≡ Ok asked → answers_of index asked ≡ Err error → wanted_of index list words all every_flavor ≡ Err error
   refused_word asked error w e = by_steps ∙ ap (λ r. r >>= λ words. by_answers (answers_of index words)) w ∙ ap by_answers e
 
-  pub all_served : (asked : List (List ℕ)) (answers : List Answer) (wanted : Wanted) → wanted_words list words ≡ Ok asked → answers_of index asked ≡ Ok answers
-      → wanted.nodes ≡ wanted_numbers all every_flavor answers index.nodes → wanted.notices ≡ notices_of answers → wanted_of index list words all every_flavor ≡ Ok wanted
-  all_served asked answers wanted w e n o =
-      by_steps ∙ ap (λ r. r >>= λ words. by_answers (answers_of index words)) w ∙ ap by_answers e
-      ∙ ap (λ numbers. Ok (record { nodes = numbers; notices = notices_of answers })) (Rattle.std.proofs.Common.sym n)
-      ∙ ap (λ notices. Ok (record { nodes = wanted.nodes; notices = notices })) (Rattle.std.proofs.Common.sym o)
+  pub all_served : (asked : List (List ℕ)) (answers : List Answer) → wanted_words list words ≡ Ok asked → answers_of index asked ≡ Ok answers
+      → wanted_of index list words all every_flavor ≡ Ok (wanted_by index all every_flavor answers)
+  all_served asked answers w e = by_steps ∙ ap (λ r. r >>= λ words. by_answers (answers_of index words)) w ∙ ap by_answers e

@@ -4,5 +4,5 @@ pub mod Answered
 pub mod Meant
 pub mod Numbered
 pub mod Noticed
-pub mod ToldView
+pub mod NoticesView
 pub mod Commanded

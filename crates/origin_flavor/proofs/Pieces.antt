@@ -43,8 +43,3 @@ is_text-from_IsText bytes h = ap (λ b. b && has_text_bytes bytes) (is_utf8-from
 -- the word of a line that is a text is one
 pub is_text-word : (line : List ℕ) → is_text line ≡ true → is_text (word_of line) ≡ true
 is_text-word line h = is_text-from_IsText (word_of line) (IsText-trim (before_first is_hash line) (IsText-before_first is_hash hash_ascii line (IsText-from_test line h)))
-
--- an origin's name is a text
-pub is_text-origin : (category port : List ℕ) → IsText category → IsText port → is_text ((category ++ 47 ∷ []) ++ port) ≡ true
-is_text-origin category port c p =
-    is_text-from_IsText ((category ++ 47 ∷ []) ++ port) (IsText-append (category ++ 47 ∷ []) port (IsText-append category (47 ∷ []) c (IsText-byte 47 (omega arith) refl)) p)

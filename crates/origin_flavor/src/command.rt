@@ -4,17 +4,34 @@ ghost use Rattle.std.specs.List.{AllByRecursion};
 ghost use Rattle.std.specs.List.Sorted.{IsStrictlySortedBy};
 ghost use Rattle.std.specs.Option.{option_copied};
 ghost use Rattle.std.specs.Ordering.{nat_cmp};
-ghost use Rattle.origin_flavor.specs.Command.{wanted_of};
+ghost use Rattle.origin_flavor.specs.Command.{wanted_by, wanted_of};
 
-use crate::answer::answers;
+use crate::answer::{Answer, answer_words};
 use crate::fault::WantedError;
 use crate::list_file::wanted_words;
 use crate::nodes::wanted_numbers;
 use crate::notices::notices;
 use crate::selection::Wanted;
-use bulk_base::Text;
+use bulk_base::{NoMemory, Text};
 use std::alloc::Global;
 use tree_index::Index;
+
+/// What words that are there come to.
+fn select_by(
+    alloc: Global,
+    index: &Index,
+    all: bool,
+    every_flavor: bool,
+    answers: &[Answer],
+) -> Result<Wanted, NoMemory>
+    ensures { IfOk result (λ found. found ≡ wanted_by index.now all every_flavor answers.now) }
+{
+    let nodes = wanted_numbers(alloc, index.nodes.as_slice(), answers, all, every_flavor)?;
+    Ok(Wanted {
+        nodes,
+        notices: notices(alloc, answers)?,
+    })
+}
 
 /// What a command wants: the nodes that the words of its list file and then its own words mean, or all nodes
 /// (poudriere-bulk(8), "-a" and "-f"; Porter's Handbook, "FLAVORS"; docs/FORMATS.md, "Wanted ports").
@@ -43,15 +60,6 @@ pub fn wanted(
     ensures order { IfOk result (λ found. IsStrictlySortedBy nat_cmp found.nodes) }
 {
     let asked = wanted_words(alloc, list, words)?;
-    let answers = answers(alloc, index, asked.as_slice())?;
-    Ok(Wanted {
-        nodes: wanted_numbers(
-            alloc,
-            index.nodes.as_slice(),
-            answers.as_slice(),
-            all,
-            every_flavor,
-        )?,
-        notices: notices(alloc, answers.as_slice())?,
-    })
+    let answers = answer_words(alloc, index, asked.as_slice())?;
+    Ok(select_by(alloc, index, all, every_flavor, answers.as_slice())?)
 }

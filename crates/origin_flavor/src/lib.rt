@@ -6,11 +6,11 @@ mod command;
 mod fault;
 mod list_file;
 mod nodes;
+mod notice_list;
 mod notices;
 mod selection;
 #[cfg(test)]
 mod tests;
-mod told;
 mod word;
 
 pub use command::wanted;

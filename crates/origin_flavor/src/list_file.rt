@@ -39,7 +39,7 @@ fn take_line(alloc: Global, found: &mut Texts, line: &[u8]) -> Result<(), NoMemo
 }
 
 /// The words of a list file. BadList exactly where a line is no text, with the number of the first such.
-fn listed(alloc: Global, bytes: &[u8]) -> Result<Texts, WantedError>
+fn read_list(alloc: Global, bytes: &[u8]) -> Result<Texts, WantedError>
     requires { length bytes.now < 2 ^ 32 }
     ensures ok { IfOk result (λ found. words_in (lines_of bytes.now) ≡ Ok found) }
     ensures refused { IfErr result (λ e. e ≢ WantedError.NoMemory → words_in (lines_of bytes.now) ≡ Err e) }
@@ -67,7 +67,7 @@ pub(crate) fn wanted_words(
     ensures refused { IfErr result (λ e. e ≢ WantedError.NoMemory → wanted_words (option_copied list.entry) words.now ≡ Err e) }
 {
     let mut found = match list {
-        Some(bytes) => listed(alloc, bytes)?,
+        Some(bytes) => read_list(alloc, bytes)?,
         None => Sequence::new(alloc),
     };
     add_copies(alloc, words, &mut found)?;

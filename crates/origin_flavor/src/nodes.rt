@@ -1,17 +1,17 @@
 // The numbers of the nodes that words mean.
 ghost use Rattle.std.specs.Prelude.{◌≡◌, ◌||◌, ◌&&◌, ◌<◌, ◌^◌, ℕ, List, length, map, filter, IfOk};
 ghost use Rattle.port_name.specs.Sets.{is_among};
-ghost use Rattle.tree_index.specs.Places.{origin_name};
+ghost use Rattle.tree_index.specs.Places as places;
 ghost use Rattle.origin_flavor.specs.Nodes as nodes;
 ghost use Rattle.origin_flavor.specs.Nodes.{wanted_numbers};
 
 use crate::answer::Answer;
 use crate::word::asks_all;
-use bulk_base::{NoMemory, Sequence, Text, Texts};
+use bulk_base::{NoMemory, Sequence, Texts};
 use bulk_model::Numbers;
-use port_name::{Names, Origin};
+use port_name::Names;
 use std::alloc::Global;
-use tree_index::NodeInfo;
+use tree_index::{NodeInfo, origin_name};
 
 /// What is wanted, by the names that words mean.
 #[derive(Drop)]
@@ -25,7 +25,7 @@ struct Meant {
 }
 
 /// The names that words mean.
-fn ends(alloc: Global, answers: &[Answer]) -> Result<Texts, NoMemory>
+fn list_names(alloc: Global, answers: &[Answer]) -> Result<Texts, NoMemory>
     ensures { IfOk result (λ found. found ≡ map (λ answer. answer.name) answers.now) }
 {
     let mut found = Sequence::new(alloc);
@@ -36,7 +36,7 @@ fn ends(alloc: Global, answers: &[Answer]) -> Result<Texts, NoMemory>
 }
 
 /// The names that the words mean that ask for all flavors.
-fn ends_with_flavors(
+fn list_flavored_names(
     alloc: Global,
     every_flavor: bool,
     answers: &[Answer],
@@ -52,7 +52,8 @@ fn ends_with_flavors(
     Ok(found)
 }
 
-fn meant_by(
+/// The names that words mean, as sets.
+fn gather_names(
     alloc: Global,
     answers: &[Answer],
     all: bool,
@@ -64,30 +65,20 @@ fn meant_by(
 {
     Ok(Meant {
         all,
-        names: Names::new(alloc, ends(alloc, answers)?)?,
-        with_flavors: Names::new(alloc, ends_with_flavors(alloc, every_flavor, answers)?)?,
+        names: Names::new(alloc, list_names(alloc, answers)?)?,
+        with_flavors: Names::new(alloc, list_flavored_names(alloc, every_flavor, answers)?)?,
     })
-}
-
-/// The text of an origin.
-fn origin_text(alloc: Global, origin: &Origin) -> Result<Text, NoMemory>
-    ensures { IfOk result (λ text. text ≡ origin_name origin.now) }
-{
-    let mut name = Vec::from_slice(alloc, origin.category.bytes())?;
-    name.push(b'/')?;
-    name.extend_from_slice(origin.port.bytes())?;
-    Text::of(alloc, name.as_slice())
 }
 
 /// Whether a node is wanted.
 fn is_wanted(alloc: Global, meant: &Meant, node: &NodeInfo) -> Result<bool, NoMemory>
     ensures { IfOk result (λ found. found ≡ (meant.now.all || (is_among meant.now.names node.now.node
-        || ((node.now.is_default && is_among meant.now.names (origin_name node.now.origin)) || is_among meant.now.with_flavors (origin_name node.now.origin))))) }
+        || ((node.now.is_default && is_among meant.now.names (places.origin_name node.now.origin)) || is_among meant.now.with_flavors (places.origin_name node.now.origin))))) }
 {
     if meant.all || meant.names.holds(&node.node) {
         return Ok(true);
     }
-    let origin = origin_text(alloc, &node.origin)?;
+    let origin = origin_name(alloc, &node.origin)?;
     Ok((node.is_default && meant.names.holds(&origin)) || meant.with_flavors.holds(&origin))
 }
 
@@ -103,7 +94,7 @@ pub(crate) fn wanted_numbers(
     requires { length nodes.now < 2 ^ 32 }
     ensures { IfOk result (λ found. found ≡ wanted_numbers all every_flavor answers.now nodes.now) }
 {
-    let meant = meant_by(alloc, answers, all, every_flavor)?;
+    let meant = gather_names(alloc, answers, all, every_flavor)?;
     let mut found = Sequence::new(alloc);
     for at in 0..nodes.len() {
         if is_wanted(alloc, &meant, &nodes[at])? {

@@ -3,7 +3,7 @@ ghost use Rattle.std.specs.Prelude.{◌≡◌, IfOk};
 ghost use Rattle.origin_flavor.specs.Notices.{notices_of};
 
 use crate::answer::Answer;
-use crate::told::Told;
+use crate::notice_list::NoticeList;
 use bulk_base::NoMemory;
 use bulk_model::Notices;
 use std::alloc::Global;
@@ -12,11 +12,11 @@ use std::alloc::Global;
 pub(crate) fn notices(alloc: Global, answers: &[Answer]) -> Result<Notices, NoMemory>
     ensures { IfOk result (λ found. found ≡ notices_of answers.now) }
 {
-    let mut told = Told::new(alloc);
+    let mut list = NoticeList::new(alloc);
     for answer in answers {
         if answer.moved {
-            told.add(alloc, &answer.word, &answer.name)?;
+            list.add(alloc, &answer.word, &answer.name)?;
         }
     }
-    told.into_notices(alloc)
+    list.into_notices(alloc)
 }

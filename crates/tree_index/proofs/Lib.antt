@@ -1,6 +1,6 @@
 pub mod Numbered
 pub mod Known
-pub mod Aimed
+pub mod Resolved
 pub mod Ordered
 pub mod SameWords
 pub mod OneParts
@@ -22,3 +22,5 @@ pub mod Gathering
 pub mod CategorySteps
 pub mod MovedBytes
 pub mod TreeSteps
+pub mod Needed
+pub mod Depending

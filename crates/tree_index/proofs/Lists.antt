@@ -1,9 +1,10 @@
 -- Lists whose members all have a property, or differ from each other.
-use Rattle.std.proofs.Common.{◌≡◌, ℕ, Bool, true, false, List, [], ◌∷◌, ◌++◌, refl, ap, ◌∙◌, drop, zero, suc}
+use Rattle.std.proofs.Common.{◌≡◌, ℕ, Bool, true, false, List, [], ◌∷◌, ◌++◌, refl, ap, ◌∙◌, drop, length, get_or, ◌<◌, arith, zero, suc}
 use Rattle.std.specs.Prelude.{cond, map, filter}
 use Rattle.std.specs.List.{AllByRecursion, IsDistinct}
 use Rattle.std.specs.List.Sorted.{IsStrictlySortedBy}
 use Rattle.std.specs.declared.cmp.Ordering.{Ordering}
+use Rattle.std.specs.declared.cmp.Ordering.TheVariants.{Less}
 
 pub all_append : {X : Type 0} (P : X → Type 0) (xs ys : List X) → AllByRecursion P xs → AllByRecursion P ys → AllByRecursion P (xs ++ ys)
 all_append P [] ys h k = k
@@ -30,6 +31,17 @@ pub all_drop : {X : Type 0} (P : X → Type 0) (i : ℕ) (xs : List X) → AllBy
 all_drop P zero xs h = h
 all_drop P (suc i) [] h = tt
 all_drop P (suc i) (x ∷ xs) h = all_drop P i xs h.1
+
+pub all_at : {X : Type 0} (P : X → Type 0) (xs : List X) (i : ℕ) (d : X) → AllByRecursion P xs → i < length xs → P (get_or xs i d)
+all_at P [] i d h l = absurd (omega arith)
+all_at P (x ∷ xs) zero d h l = h.0
+all_at P (x ∷ xs) (suc i) d h l = all_at P xs i d h.1 (omega arith)
+
+pub sorted_append : {K : Type 0} (c : K → K → Ordering) (ks ls : List K) → IsStrictlySortedBy c ks → IsStrictlySortedBy c ls → AllByRecursion (λ k. AllByRecursion (λ l. c k l ≡ Less) ls) ks
+    → IsStrictlySortedBy c (ks ++ ls)
+unfolding IsStrictlySortedBy
+sorted_append c [] ls s t h = t
+sorted_append c (k ∷ ks) ls s t h = (all_append (λ l. c k l ≡ Less) ks ls s.0 h.0, sorted_append c ks ls s.1 t h.1)
 
 pub sorted_drop : {K : Type 0} (c : K → K → Ordering) (i : ℕ) (ks : List K) → IsStrictlySortedBy c ks → IsStrictlySortedBy c (drop i ks)
 unfolding IsStrictlySortedBy

@@ -1,5 +1,5 @@
 -- What holds of every node of a ports tree, of the nodes of one port and of a whole tree, and of every index.
-use Rattle.std.specs.Prelude.{◌≡◌, ℕ, Bool, true, false, ◌&&◌, ◌<◌, ◌≤◌, List, length, map, filter, Result, IsTrue, IfSome, bytes_eq}
+use Rattle.std.specs.Prelude.{◌≡◌, ℕ, Bool, true, false, ◌&&◌, ◌<◌, ◌≤◌, ◌^◌, List, length, map, filter, Result, IsTrue, IfSome, bytes_eq}
 use Rattle.std.specs.List.{AllByRecursion, IsDistinct}
 use Rattle.bulk_base.specs.Names.{IsPackageName, is_port_name, is_flavor, node_of}
 use Rattle.outside.specs.Contents.{IsAscending}
@@ -13,6 +13,7 @@ use Rattle.tree_index.specs.declared.fault.IndexError.TheVariants.{TreeFault}
 use Rattle.tree_index.specs.declared.node.NodeInfo.{NodeInfo}
 use Rattle.tree_index.specs.declared.node.At.{At}
 use Rattle.tree_index.specs.declared.node.At.TheVariants.{Node, Nowhere, Moved}
+use Rattle.tree_index.specs.declared.node.Target.{Target}
 use Rattle.tree_index.specs.Places.{origin_name}
 use Rattle.tree_index.specs.Targets.{names_of}
 
@@ -45,7 +46,7 @@ is_default_of origin node = node.is_default && bytes_eq (origin_name origin) (or
 pub record AreTreeNodes (nodes : List NodeInfo) : Type 0 where
   pub forms : AllByRecursion IsNodeInfo nodes
   pub order : IsAscending (map (λ node. node.node) nodes)
-  pub few : length nodes ≤ 16384
+  pub few : length nodes < 2 ^ 32
   pub apart : IsDistinct bytes_eq (map (λ node. node.desc.name) nodes)
   pub one_default : AllByRecursion (λ node. length (filter (is_default_of node.origin) nodes) ≡ 1) nodes
 
@@ -55,10 +56,14 @@ IsAtWithin count (Node n) = n < count
 IsAtWithin count (Nowhere name) = Unit {0}
 IsAtWithin count (Moved old new) = Unit {0}
 
+-- targets among so many nodes
+abbrev pub AreWithin : ℕ → List Target → Type 0
+AreWithin count targets = AllByRecursion (λ target. IsAtWithin count target.at) targets
+
 -- an index: the nodes of a tree with targets among them, and just the names of nodes and ports
 pub record IsIndex (nodes : List NodeInfo) (names : List (List ℕ)) : Type 0 where
   pub tree : AreTreeNodes nodes
-  pub range : AllByRecursion (λ node. AllByRecursion (λ target. IsAtWithin (length nodes) target.at) node.targets) nodes
+  pub range : AllByRecursion (λ node. AreWithin (length nodes) node.targets) nodes
   pub known : (name : List ℕ) → is_among names name ≡ is_among (names_of nodes) name
 
 abbrev pub is_tree_fault : IndexError → Bool

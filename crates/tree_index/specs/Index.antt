@@ -10,7 +10,7 @@ use Rattle.bulk_base.specs.Order.{in_order}
 use Rattle.tree_index.specs.declared.fault.IndexError.{IndexError}
 use Rattle.tree_index.specs.declared.node.NodeInfo.{NodeInfo}
 use Rattle.tree_index.specs.Tree.{Listed, tree_nodes}
-use Rattle.tree_index.specs.Targets.{aimed, names_of}
+use Rattle.tree_index.specs.Targets.{resolved, names_of}
 
 -- an index as its nodes, what MOVED says, and the names that are there
 pub record IndexView : Type 0 where
@@ -20,7 +20,7 @@ pub record IndexView : Type 0 where
 
 -- the index of nodes
 abbrev pub index_with : Listed → IndexView
-index_with listed = record { nodes = aimed listed.1 listed.0; moved = listed.0; names = in_order (names_of listed.1) }
+index_with listed = record { nodes = resolved listed.1 listed.0; moved = listed.0; names = in_order (names_of listed.1) }
 
 -- the index of a tree, or the first refusal
 abbrev pub index_of : MakeConf → Bool → Contents → Result IndexView IndexError

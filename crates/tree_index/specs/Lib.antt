@@ -7,5 +7,6 @@ pub mod Targets
 pub mod Facts
 pub mod Numbers
 pub mod Index
+pub mod Depends
 pub mod Gathered
 pub mod Twins

@@ -32,15 +32,15 @@ moved_to name (follow.At new) = Moved name new
 moved_to name answer = Nowhere name
 
 -- where a name leads: to the node that it means, else where MOVED leads it
-abbrev pub place_of : List NodeInfo → List MovedLine → List ℕ → At
-place_of nodes moved name = elim (number_in nodes name) [
+abbrev pub destination : List NodeInfo → List MovedLine → List ℕ → At
+destination nodes moved name = elim (number_in nodes name) [
   | Some n ↦ Node n
   | None ↦ moved_to name (leads_to (names_of nodes) moved name)
 ]
 
 -- the target of an entry
 abbrev pub target_of : List NodeInfo → List MovedLine → Entry → Target
-target_of nodes moved entry = record { kind = entry.kind; at = place_of nodes moved entry.target }
+target_of nodes moved entry = record { kind = entry.kind; at = destination nodes moved entry.target }
 
 -- a node's targets, one for each of its entries
 abbrev pub targets_of : List NodeInfo → List MovedLine → NodeInfo → List Target
@@ -60,5 +60,5 @@ with_targets node targets = record {
 }
 
 -- all nodes with their targets
-abbrev pub aimed : List NodeInfo → List MovedLine → List NodeInfo
-aimed nodes moved = map (λ node. with_targets node (targets_of nodes moved node)) nodes
+abbrev pub resolved : List NodeInfo → List MovedLine → List NodeInfo
+resolved nodes moved = map (λ node. with_targets node (targets_of nodes moved node)) nodes

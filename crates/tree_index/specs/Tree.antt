@@ -76,9 +76,13 @@ by_name nodes = fold (λ map node. finite.insert map node.node node) finite.empt
 unfoldable pub ordered : List NodeInfo → List NodeInfo
 ordered nodes = finite.values (by_name nodes)
 
--- at most 16,384 nodes
+-- the most nodes of a tree that is read
+abbrev pub most_nodes : ℕ
+most_nodes = 16384
+
+-- no more than the most nodes
 unfoldable pub few : List NodeInfo → Result (List NodeInfo) IndexError
-few nodes = if nat_le (length nodes) 16384 then Ok nodes else Err (Limit Nodes (length nodes))
+few nodes = if nat_le (length nodes) most_nodes then Ok nodes else Err (Limit Nodes (length nodes))
 
 -- two nodes have packages of one name
 abbrev pub are_twins : NodeInfo → NodeInfo → Bool
@@ -103,12 +107,22 @@ apart nodes = elim (first_twins nodes) [
 abbrev pub Listed : Type 0
 Listed = List MovedLine × List NodeInfo
 
+-- nodes in the byte order of their names, or why they make no index
+abbrev pub accepted : List NodeInfo → Result (List NodeInfo) IndexError
+accepted nodes = do
+  kept ← few (ordered nodes)
+  apart kept
+
+-- the nodes of a tree with these categories
+abbrev pub nodes_in : MakeConf → Bool → Contents → List (List ℕ) → Result (List NodeInfo) IndexError
+nodes_in make try_broken content categories = do
+  nodes ← nodes_of_categories make try_broken content categories
+  accepted nodes
+
 -- the nodes of a tree, or the first refusal in the order of the files
 unfoldable pub tree_nodes : MakeConf → Bool → Contents → Result Listed IndexError
 tree_nodes make try_broken content = do
   categories ← listed_in content categories_file
   moved ← moved_at content
-  nodes ← nodes_of_categories make try_broken content categories
-  kept ← few (ordered nodes)
-  told ← apart kept
-  Ok (moved, told)
+  nodes ← nodes_in make try_broken content categories
+  Ok (moved, nodes)

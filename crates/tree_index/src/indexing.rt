@@ -1,14 +1,15 @@
 // The index of a ports tree, made of its files.
-ghost use Rattle.std.specs.Prelude.{◌≡◌, ◌≢◌, ◌||◌, IsTrue, IfOk, IfErr, Ok, Err};
+ghost use Rattle.std.specs.Prelude.{◌≡◌, ◌≢◌, ◌≤◌, ◌||◌, length, IsTrue, IfOk, IfErr, Ok, Err};
 ghost use Rattle.tree_index.specs.Facts.{AreTreeNodes, IsCaused};
 ghost use Rattle.tree_index.specs.Index.{index_with, index_of};
+ghost use Rattle.tree_index.specs.Tree.{most_nodes};
 
-use crate::aiming::aim_nodes;
 use crate::fault::IndexError;
 use crate::name_list::names_of;
 use crate::node::NodeInfos;
 use crate::node_numbers::number_nodes;
 use crate::ports_index::Index;
+use crate::resolving::resolve_dependencies;
 use crate::tree_reading::read_tree;
 use bulk_base::NoMemory;
 use conf_file::MakeConf;
@@ -20,12 +21,13 @@ use std::alloc::Global;
 /// The index of the nodes of a tree.
 fn index_with(alloc: Global, moved: Moved, listed: NodeInfos) -> Result<Index, NoMemory>
     requires { AreTreeNodes listed }
-    ensures { IfOk result (λ index. index ≡ index_with (moved, listed)) }
+    ensures index { IfOk result (λ index. index ≡ index_with (moved, listed)) }
+    ensures nodes { IfOk result (λ index. length index.nodes ≡ length listed) }
 {
     let all = listed.as_slice();
     let names = Names::new(alloc, names_of(alloc, all)?)?;
     let numbers = number_nodes(alloc, all)?;
-    let nodes = aim_nodes(alloc, &numbers, &names, &moved, listed)?;
+    let nodes = resolve_dependencies(alloc, &numbers, &names, &moved, listed)?;
     Ok(Index {
         nodes,
         moved,
@@ -60,6 +62,7 @@ pub fn index<T: Tree>(
 ) -> Result<Index, IndexError>
     ensures ok { IsTrue T.tells → IfOk result (λ index. index_of make.now (make.now.try_broken || try_broken) (T.content tree.old) ≡ Ok index) }
     ensures refused { IsTrue T.tells → IfErr result (λ e. e ≢ IndexError.NoMemory → e ≢ IndexError.TreeFault → index_of make.now (make.now.try_broken || try_broken) (T.content tree.old) ≡ Err e) }
+    ensures few { IfOk result (λ index. length index.nodes ≤ most_nodes) }
     ensures same { T.content tree.new ≡ T.content tree.old }
     ensures cause { IsCaused (T.faults tree.old) (T.faults tree.new) result }
 {

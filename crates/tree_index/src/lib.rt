@@ -1,8 +1,8 @@
 //! The index of a ports tree: every node with its description, its options and where its dependencies lead.
 #![tactic(auto)]
 
-mod aiming;
 mod category;
+mod depends;
 mod fault;
 mod indexing;
 mod listing;
@@ -16,12 +16,14 @@ mod port_fault;
 mod port_node;
 mod port_reading;
 mod ports_index;
+mod resolving;
 #[cfg(test)]
 mod tests;
 mod tree_reading;
 mod twins;
 mod var_file;
 
+pub use depends::{depends_of, edges_of};
 pub use fault::{IndexError, PortKind};
 pub use indexing::index;
 pub use node::{At, NodeInfo, NodeInfos, Target, Targets};

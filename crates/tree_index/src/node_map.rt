@@ -1,5 +1,8 @@
 // Nodes by their names.
-ghost use Rattle.std.specs.Prelude.{◌≡◌, IfOk};
+ghost use Rattle.std.specs.Prelude.{◌≡◌, IfOk, OnOk};
+ghost use Rattle.std.specs.Ordering.{nat_cmp};
+ghost use Rattle.std.specs.Cmp.Lexicographic.{slice_cmp};
+ghost use Rattle.std.specs.BTreeMap.{insert_entry};
 ghost use Rattle.std.specs.FinMap.{entries};
 ghost use Rattle.tree_index.specs.Tree as trees;
 
@@ -8,13 +11,26 @@ use bulk_base::{NoMemory, Sequence, Text};
 use std::alloc::Global;
 use std::collections::BTreeMap;
 
+// Puts a node under its name.
+fn put_under_name(
+    alloc: Global,
+    map: &mut BTreeMap<Text, NodeInfo>,
+    node: NodeInfo,
+) -> Result<(), NoMemory>
+    ensures { OnOk result (map.new.entries ≡ insert_entry (slice_cmp nat_cmp) map.old.entries node.node node) }
+{
+    let name = node.node.copy(alloc)?;
+    map.insert(name, node)?;
+    Ok(())
+}
+
 // Nodes by their names; of nodes with one name the last.
 fn by_name(alloc: Global, nodes: NodeInfos) -> Result<BTreeMap<Text, NodeInfo>, NoMemory>
     ensures { IfOk result (λ map. map.entries ≡ entries (trees.by_name nodes)) }
 {
     let mut map = BTreeMap::new(alloc);
     for node in nodes.into_vec() {
-        map.insert(node.node.copy(alloc)?, node)?;
+        put_under_name(alloc, &mut map, node)?;
     }
     Ok(map)
 }

@@ -37,7 +37,7 @@ fn node_name(alloc: Global, origin: &Origin, flavor: Option<&Text>) -> Result<Te
 }
 
 /// Why a node is not built, where it is not: by IGNORE, else by FORBIDDEN, else by BROKEN where broken ports are not tried.
-fn reason(try_broken: bool, desc: &Desc) -> Option<&Text>
+fn find_ignored_reason(try_broken: bool, desc: &Desc) -> Option<&Text>
     ensures { option_copied result ≡ ports.ignored_by try_broken desc.now }
 {
     let broken = if try_broken {
@@ -48,8 +48,42 @@ fn reason(try_broken: bool, desc: &Desc) -> Option<&Text>
     desc.ignore.as_ref().or(desc.forbidden.as_ref()).or(broken)
 }
 
+/// What a node has besides its description.
+#[derive(Drop)]
+struct NodeParts {
+    node: Text,
+    origin: Origin,
+    flavor: Option<Text>,
+    options: Switches,
+    ignored: Option<Text>,
+}
+
+/// Copies of a node's parts; they stand before the node is made, since a node that is made has much to give up where
+/// memory is wanting.
+fn copy_parts(
+    alloc: Global,
+    origin: &Origin,
+    flavor: Option<&Text>,
+    options: &Switches,
+    ignored: Option<&Text>,
+) -> Result<NodeParts, NoMemory>
+    ensures name { IfOk result (λ parts. parts.node ≡ node_of (places.origin_name origin.now) (option_copied flavor.entry)) }
+    ensures origin { IfOk result (λ parts. parts.origin ≡ origin.now) }
+    ensures flavor { IfOk result (λ parts. parts.flavor ≡ option_copied flavor.entry) }
+    ensures options { IfOk result (λ parts. parts.options ≡ options.now) }
+    ensures ignored { IfOk result (λ parts. parts.ignored ≡ option_copied ignored.entry) }
+{
+    Ok(NodeParts {
+        node: node_name(alloc, origin, flavor)?,
+        origin: copy_origin(alloc, origin)?,
+        flavor: copy_of(alloc, flavor)?,
+        options: switch_copies(alloc, options.as_slice())?,
+        ignored: copy_of(alloc, ignored)?,
+    })
+}
+
 /// A node with what its port's variables say of it.
-fn node_with(
+fn make_node(
     alloc: Global,
     try_broken: bool,
     origin: &Origin,
@@ -60,21 +94,28 @@ fn node_with(
 ) -> Result<NodeInfo, NoMemory>
     ensures { IfOk result (λ node. node ≡ ports.node_with try_broken origin.now (option_copied flavor.entry) is_default options.now desc) }
 {
+    let parts = copy_parts(
+        alloc,
+        origin,
+        flavor,
+        options,
+        find_ignored_reason(try_broken, &desc),
+    )?;
     Ok(NodeInfo {
-        node: node_name(alloc, origin, flavor)?,
-        origin: copy_origin(alloc, origin)?,
-        flavor: copy_of(alloc, flavor)?,
+        node: parts.node,
+        origin: parts.origin,
+        flavor: parts.flavor,
         is_default,
-        options: switch_copies(alloc, options.as_slice())?,
-        ignored: copy_of(alloc, reason(try_broken, &desc))?,
         desc,
+        options: parts.options,
+        ignored: parts.ignored,
         targets: Sequence::new(alloc),
     })
 }
 
 /// The node of a flavor, or of a port without flavors, or what is wrong with the port's variables. Where its dependencies
 /// lead is not known yet.
-pub(crate) fn read_node(
+pub(crate) fn describe_node(
     alloc: Global,
     try_broken: bool,
     origin: &Origin,
@@ -87,5 +128,5 @@ pub(crate) fn read_node(
     ensures refused { IfErr result (λ e. e ≢ DescError.NoMemory → described (finite.get vars.now) (option_copied flavor.entry) options.now ≡ Err e) }
 {
     let desc = describe(alloc, vars, flavor, options)?;
-    Ok(node_with(alloc, try_broken, origin, flavor, is_default, options, desc)?)
+    Ok(make_node(alloc, try_broken, origin, flavor, is_default, options, desc)?)
 }

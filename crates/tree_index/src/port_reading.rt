@@ -13,7 +13,7 @@ use crate::fault::IndexError;
 use crate::node::{NodeInfo, NodeInfos};
 use crate::place::{options_file, port_file};
 use crate::port_fault::{desc_fault, option_fault};
-use crate::port_node::read_node;
+use crate::port_node::describe_node;
 use crate::var_file::{read_vars_at, read_vars_if_there};
 use bulk_base::{Path, Sequence, Switches, Text, Texts};
 use conf_file::MakeConf;
@@ -66,7 +66,7 @@ fn nodes_behind(
     let mut nodes = Sequence::new(alloc);
     nodes.push(default)?;
     for flavor in others {
-        let node = read_node(
+        let node = describe_node(
             alloc,
             try_broken,
             origin,
@@ -100,7 +100,7 @@ fn nodes_for(
     ensures refused { IfErr result (λ e. e ≢ DescError.NoMemory → ports.nodes_for try_broken origin.now vars.now options.now (ports.with_default flavors.now) ≡ Err e) }
 {
     let first = flavors.first();
-    let default = read_node(alloc, try_broken, origin, vars, first, true, options)?;
+    let default = describe_node(alloc, try_broken, origin, vars, first, true, options)?;
     let others = behind_first(flavors);
     nodes_behind(alloc, try_broken, origin, vars, options, default, others)
 }

@@ -7,7 +7,7 @@ use std::marker::Model;
 /// The index of a ports tree: its nodes, what MOVED says, and the names that are there.
 ///
 /// Contracts see the record of its fields. Of every index it holds that the nodes stand in byte order of their names, each
-/// once, and are at most 16,384; that no two have packages of one name; that each port has one default node; that numbers
+/// once, and are fewer than 4,294,967,296; that no two have packages of one name; that each port has one default node; that numbers
 /// in targets are those of nodes; that `names` has just the names of the nodes and of their ports; and that names, options
 /// and entries are in form.
 #[derive(Drop)]

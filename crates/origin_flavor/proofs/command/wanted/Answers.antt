@@ -4,10 +4,9 @@ use Rattle.std.specs.List.Sorted.{IsStrictlySortedBy}
 use Rattle.std.specs.Ordering.{nat_cmp}
 use Rattle.std.specs.Option.{option_copied}
 use Rattle.std.proofs.lemmas.Result.{err_from_is_err_and}
-use Rattle.tree_index.specs.Index.{IndexView}
 use Rattle.origin_flavor.specs.Answers.{answers_of}
-use Rattle.origin_flavor.specs.Nodes.{wanted_numbers}
-use Rattle.origin_flavor.specs.Notices.{notices_of}
+use Rattle.origin_flavor.specs.declared.selection.Wanted.{Wanted}
+use Rattle.origin_flavor.specs.Command.{wanted_by}
 use Rattle.origin_flavor.proofs.Commanded.{bad_list, refused_word, all_served}
 use Rattle.origin_flavor.proofs.Numbered.{wanted_within, wanted_order}
 use Rattle.origin_flavor.proofs.command.wanted.Goals as goal
@@ -26,22 +25,19 @@ returns-in_err-answers-clause-refused c =
 answered : (c : goal.After-drop-asked-inside-2) → answers_of c.args.index.now c.in_ok-asked.asked ≡ Ok c.in_ok-answers.answers
 answered c = ap (answers_of c.args.index.now) (sym c.as_slice.ensures) ∙ c.in_ok-answers.ensures.ok
 
-numbered : (c : goal.After-drop-asked-inside-2) → c.in_ok-wanted_numbers.field-0 ≡ wanted_numbers c.args.all c.args.every_flavor c.in_ok-answers.answers c.args.index.now.nodes
-numbered c =
-    c.in_ok-wanted_numbers.ensures
-    ∙ ap (λ answers. wanted_numbers c.args.all c.args.every_flavor answers c.as_slice-2.result.now) c.as_slice-3.ensures
-    ∙ ap (wanted_numbers c.args.all c.args.every_flavor c.in_ok-answers.answers) (c.as_slice-2.ensures ∙ ap (λ (index : IndexView). index.nodes) c.index.view_is)
+selected : (c : goal.After-drop-asked-inside-2) → c.in_ok-select_by.field-0 ≡ wanted_by c.args.index.now c.args.all c.args.every_flavor c.in_ok-answers.answers
+selected c = c.in_ok-select_by.ensures ∙ ap (wanted_by c.args.index.now c.args.all c.args.every_flavor) c.as_slice-2.ensures
 
 pub returns-clause-ok : goal.returns-clause-ok
 returns-clause-ok c =
-    all_served c.args.index.now (option_copied c.args.list) c.args.words.now c.args.all c.args.every_flavor c.in_ok-asked.asked c.in_ok-answers.answers
-    (record { nodes = c.in_ok-wanted_numbers.field-0; notices = c.in_ok-notices.field-0 }) c.in_ok-asked.ensures.ok (answered c) (numbered c)
-    (c.in_ok-notices.ensures ∙ ap notices_of c.as_slice-4.ensures)
+    all_served c.args.index.now (option_copied c.args.list) c.args.words.now c.args.all c.args.every_flavor c.in_ok-asked.asked c.in_ok-answers.answers c.in_ok-asked.ensures.ok (answered c)
+    ∙ ap Ok (sym (selected c))
 
 pub returns-clause-within : goal.returns-clause-within
 returns-clause-within c =
-    subst (AllByRecursion (λ n. n < length c.args.index.now.nodes)) (sym (numbered c)) (wanted_within c.args.all c.args.every_flavor c.in_ok-answers.answers c.args.index.now.nodes)
+    subst (λ (found : Wanted). AllByRecursion (λ n. n < length c.args.index.now.nodes) found.nodes) (sym (selected c))
+    (wanted_within c.args.all c.args.every_flavor c.in_ok-answers.answers c.args.index.now.nodes)
 
 pub returns-clause-order : goal.returns-clause-order
 returns-clause-order c =
-    subst (IsStrictlySortedBy nat_cmp) (sym (numbered c)) (wanted_order c.args.all c.args.every_flavor c.in_ok-answers.answers c.args.index.now.nodes)
+    subst (λ (found : Wanted). IsStrictlySortedBy nat_cmp found.nodes) (sym (selected c)) (wanted_order c.args.all c.args.every_flavor c.in_ok-answers.answers c.args.index.now.nodes)

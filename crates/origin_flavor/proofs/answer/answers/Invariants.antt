@@ -1,5 +1,0 @@
-use Rattle.origin_flavor.proofs.Answered.{AnsweredSoFar}
-use Rattle.origin_flavor.proofs.answer.answers.Given as goal
-
-abbrev pub invariant-loop-word : goal.invariant-loop-word
-invariant-loop-word l = AnsweredSoFar l.index l.words l.word-index l.found
