@@ -8,7 +8,7 @@ use crate::fault::ConfError;
 use bulk_base::{NoMemory, Text, Texts};
 use option_set::Layers;
 use port_name::Origin;
-use port_vars::{Vars, read_vars};
+use port_vars::{Vars, read_vars, words_in};
 use std::alloc::Global;
 
 /// What make.conf says.
