@@ -12,7 +12,7 @@ ghost use Rattle.pkg_record.specs.Reading.{Gives, unsigned_at, last_at, record_o
 
 use crate::fault::{Fault, ReadError, RecordError, misfit};
 use crate::line_reader::{digest_line, flavor_line, name_line, origin_line, version_line};
-use crate::list_reader::{depends, files, options};
+use crate::list_reader::lists;
 use bulk_base::{NoMemory, Text};
 use bulk_model::Package;
 use sha2::{Digest, Sha256};
@@ -27,9 +27,7 @@ fn unsigned(alloc: Global, bytes: &[u8]) -> Result<(Package, &[u8]), ReadError>
     let (name, rest) = name_line(alloc, rest)?;
     let (origin, rest) = origin_line(alloc, rest)?;
     let (flavor, rest) = flavor_line(alloc, rest)?;
-    let (options, rest) = options(alloc, rest)?;
-    let (depends, rest) = depends(alloc, rest)?;
-    let (files, rest) = files(alloc, rest)?;
+    let (options, depends, files, rest) = lists(alloc, rest)?;
     let built = Package {
         name,
         origin,
