@@ -73,10 +73,13 @@ fn refusal(size: usize, error: ReadError) -> RecordError
 
 /// Reads what stands behind a package's lines: the line with the digest of all bytes before it.
 fn verify(alloc: Global, bytes: &[u8], last: &[u8]) -> Result<(), RecordError>
-    ensures ok { OnOk result ((p : PackageView) → unsigned_at bytes.now ≡ Ok (p, last.now) → record_of bytes.now ≡ Ok p) }
-    ensures err { IfErr result (λ e. e ≢ RecordError.NoMemory → (p : PackageView) → unsigned_at bytes.now ≡ Ok (p, last.now)
+    ensures ok { OnOk result ((p : PackageView) → unsigned_at bytes.now ≡ Ok (p, last.now)
+        → record_of bytes.now ≡ Ok p) }
+    ensures err { IfErr result (λ e. e ≢ RecordError.NoMemory
+        → (p : PackageView) → unsigned_at bytes.now ≡ Ok (p, last.now)
         → record_of bytes.now ≡ Err e) }
-    ensures digest { IfErr result (λ e. (p : PackageView) → IsPackage p → unsigned_at bytes.now ≡ Ok (p, last.now)
+    ensures digest { IfErr result (λ e. (p : PackageView) → IsPackage p
+        → unsigned_at bytes.now ≡ Ok (p, last.now)
         → IsForDigest bytes.now e) }
 {
     let stated = match last_line(alloc, last) {
