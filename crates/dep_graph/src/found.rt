@@ -97,10 +97,11 @@ impl Found {
         Ok(numbers)
     }
 
-    /// The same by a sort, which costs no pass over the marks: as many steps as nodes were found, times the logarithm of
-    /// their number.
+    /// The same by a sort, without a pass over the marks: as many steps as nodes were found, times the logarithm of their
+    /// number.
     pub(crate) fn sorted(&self, alloc: Global) -> Result<Numbers, NoMemory>
-        ensures { IfOk result (λ numbers. numbers ≡ filter (has self.now.nodes) (range_with_len 0 self.now.count)) }
+        ensures { IfOk result (λ numbers.
+            numbers ≡ filter (has self.now.nodes) (range_with_len 0 self.now.count)) }
     {
         let mut nodes = Vec::from_slice(alloc, self.nodes.as_slice())?;
         nodes.sort_unstable();

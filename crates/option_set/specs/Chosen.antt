@@ -33,12 +33,12 @@ abbrev pub settled : Vars → Layers → Defining → List (List ℕ) → Result
 settled vars layers d options = decided vars d options (on_in vars options layers)
 
 -- the options that are defined with their states, or the first refusal
-abbrev pub chosen_of : Vars → Layers → Defining → Result (List Switch) OptionError
-chosen_of vars layers d =
+abbrev pub chosen_defined : Vars → Layers → Defining → Result (List Switch) OptionError
+chosen_defined vars layers d =
     let options = options_of d in
     let on = on_in vars options layers in
     unless (option_or (words_refused vars d options) (state_refused vars d on)) (switches options on)
 
 -- the options that a port defines with their states, or the first refusal
 unfoldable pub chosen : Vars → Layers → Result (List Switch) OptionError
-chosen vars layers = chosen_of vars layers (defining vars)
+chosen vars layers = chosen_defined vars layers (defining vars)

@@ -10,5 +10,5 @@ abbrev pub on_in : Stack → List ℕ → Bool
 on_in s name = layered s.file.set s.file.unset (layered s.port.set s.port.unset (layered s.global.set s.global.unset (is_among s.default name) name) name) name
 
 -- names with their states after the layers
-abbrev pub switches_by : Stack → List (List ℕ) → List Switch
-switches_by s names = map (λ name. record { name = name; on = on_in s name }) names
+abbrev pub layered_switches : Stack → List (List ℕ) → List Switch
+layered_switches s names = map (λ name. record { name = name; on = on_in s name }) names

@@ -1,7 +1,7 @@
 // The options that are asked for.
 ghost use Rattle.std.specs.Prelude.{◌≡◌, IfOk};
 ghost use Rattle.option_set.specs.Layers as layers_of;
-ghost use Rattle.option_set.specs.Stack.{switches_by};
+ghost use Rattle.option_set.specs.Stack.{layered_switches};
 
 use crate::layers::Layers;
 use crate::stack::Stack;
@@ -9,8 +9,8 @@ use bulk_base::{NoMemory, Sequence, Switch, Switches, Text, Texts};
 use std::alloc::Global;
 
 /// Names with whether each is on after the layers.
-fn switches_by(alloc: Global, names: &[Text], stack: &Stack) -> Result<Switches, NoMemory>
-    ensures { IfOk result (λ switches. switches ≡ switches_by stack.now names.now) }
+fn apply_layers(alloc: Global, names: &[Text], stack: &Stack) -> Result<Switches, NoMemory>
+    ensures { IfOk result (λ switches. switches ≡ layered_switches stack.now names.now) }
 {
     let mut found = Sequence::new(alloc);
     for name in names {
@@ -36,5 +36,5 @@ pub fn asked(
     ensures { IfOk result (λ switches. switches ≡ layers_of.asked options.now default.now layers.now) }
 {
     let stack = Stack::new(alloc, default, layers)?;
-    switches_by(alloc, options.as_slice(), &stack)
+    apply_layers(alloc, options.as_slice(), &stack)
 }

@@ -63,8 +63,10 @@ fn decide(
     options: &[Text],
     on: &Listed,
 ) -> Result<Switches, OptionError>
-    ensures ok { IfOk result (λ switches. of.decided vars.now defining.now options.now on.now ≡ Ok switches) }
-    ensures refused { IfErr result (λ e. e ≢ OptionError.NoMemory → of.decided vars.now defining.now options.now on.now ≡ Err e) }
+    ensures ok { IfOk result (λ switches.
+        of.decided vars.now defining.now options.now on.now ≡ Ok switches) }
+    ensures refused { IfErr result (λ e. e ≢ OptionError.NoMemory
+        → of.decided vars.now defining.now options.now on.now ≡ Err e) }
 {
     if let Some(refusal) = state_refused(alloc, vars, defining, on)? {
         return Err(refusal);
@@ -80,22 +82,26 @@ fn settle(
     defining: &Defining,
     options: &Listed,
 ) -> Result<Switches, OptionError>
-    ensures ok { IfOk result (λ switches. of.settled vars.now layers.now defining.now options.now ≡ Ok switches) }
-    ensures refused { IfErr result (λ e. e ≢ OptionError.NoMemory → of.settled vars.now layers.now defining.now options.now ≡ Err e) }
+    ensures ok { IfOk result (λ switches.
+        of.settled vars.now layers.now defining.now options.now ≡ Ok switches) }
+    ensures refused { IfErr result (λ e. e ≢ OptionError.NoMemory
+        → of.settled vars.now layers.now defining.now options.now ≡ Err e) }
 {
     let on = Listed::new(alloc, options_on(alloc, vars, options.names(), layers)?)?;
     decide(alloc, vars, defining, options.as_slice(), &on)
 }
 
 /// The options that are defined with their states, or the first refusal.
-fn choose_of(
+fn choose_defined(
     alloc: Global,
     vars: &Vars,
     layers: &Layers,
     defining: &Defining,
 ) -> Result<Switches, OptionError>
-    ensures ok { IfOk result (λ switches. of.chosen_of vars.now layers.now defining.now ≡ Ok switches) }
-    ensures refused { IfErr result (λ e. e ≢ OptionError.NoMemory → of.chosen_of vars.now layers.now defining.now ≡ Err e) }
+    ensures ok { IfOk result (λ switches.
+        of.chosen_defined vars.now layers.now defining.now ≡ Ok switches) }
+    ensures refused { IfErr result (λ e. e ≢ OptionError.NoMemory
+        → of.chosen_defined vars.now layers.now defining.now ≡ Err e) }
 {
     let options = options_of(alloc, defining)?;
     if let Some(refusal) = words_refused(alloc, vars, defining, &options)? {
@@ -121,5 +127,5 @@ pub fn choose(alloc: Global, vars: &Vars, layers: &Layers) -> Result<Switches, O
     ensures refused { IfErr result (λ e. e ≢ OptionError.NoMemory → of.chosen vars.now layers.now ≡ Err e) }
 {
     let defining = read_defining(alloc, vars)?;
-    choose_of(alloc, vars, layers, &defining)
+    choose_defined(alloc, vars, layers, &defining)
 }

@@ -44,8 +44,7 @@ fails_then (errors.Found fault) r f h = ap (λ x. x >>= f) h
 refused : (bytes : List ℕ) (error : ReadError) (r : Result Signed Fault) → Fails error r → refusal (length bytes) error ≢ records.NoMemory → judged bytes r ≡ Err (refusal (length bytes) error)
 unfolding judged
 refused bytes errors.Memory r h some = absurd (some refl)
-refused bytes (errors.Found Short) r h some = ap (judged bytes) h
-refused bytes (errors.Found (Misfit left)) r h some = ap (judged bytes) h
+refused bytes (errors.Found fault) r h some = ap (judged bytes) h
 
 pub unsigned_refused : (bytes : List ℕ) (error : ReadError) → Fails error (unsigned_at bytes) → refusal (length bytes) error ≢ records.NoMemory → record_of bytes ≡ Err (refusal (length bytes) error)
 unfolding signed_at

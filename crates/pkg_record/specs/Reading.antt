@@ -112,6 +112,14 @@ listed_at heading item bytes = do
   count ← said_at (count_behind heading) bytes
   items_at item count.0 [] count.1
 
+-- the options, dependencies and files, and what follows them
+abbrev pub lists_at : List ℕ → Result (List Switch × List Depend × List FileItem × List ℕ) Fault
+lists_at bytes = do
+  options ← listed_at (codes "options ") option_at bytes
+  depends ← listed_at (codes "depends ") depend_at options.1
+  files ← listed_at (codes "files ") file_at depends.1
+  Ok (options.0, depends.0, files.0, files.1)
+
 -- the package that the lines before the digest spell
 unfoldable pub unsigned_at : List ℕ → Result (PackageView × List ℕ) Fault
 unsigned_at bytes = do
@@ -150,17 +158,20 @@ last_at bytes = do
 abbrev pub digest_of : ℕ → List ℕ → List ℕ
 digest_of size bytes = encode_lower (sha256 (take size bytes))
 
+-- the error for a fault in so many bytes
+abbrev pub error_of : ℕ → Fault → RecordError
+error_of size Short = records.Short
+error_of size (Misfit left) = records.BadField (size - left)
+
 -- what a record gives
 unfoldable pub judged : List ℕ → Result Signed Fault → Result PackageView RecordError
-judged bytes (Err Short) = Err records.Short
-judged bytes (Err (Misfit left)) = Err (records.BadField (length bytes - left))
+judged bytes (Err fault) = Err (error_of (length bytes) fault)
 judged bytes (Ok s) = if bytes_eq s.stated (digest_of s.size bytes) then Ok s.read else Err (records.BadDigest s.stated (digest_of s.size bytes))
 
--- why bytes of this length are no record
+-- the error where a reader of so many bytes gave nothing
 abbrev pub refusal : ℕ → ReadError → RecordError
 refusal size errors.Memory = records.NoMemory
-refusal size (errors.Found Short) = records.Short
-refusal size (errors.Found (Misfit left)) = records.BadField (size - left)
+refusal size (errors.Found fault) = error_of size fault
 
 abbrev pub record_of : List ℕ → Result PackageView RecordError
 record_of bytes = judged bytes (signed_at bytes)

@@ -1,7 +1,7 @@
 // The lists of a record: a line with a count, and so many items.
 ghost use Rattle.std.specs.Prelude.{◌≡◌, [], codes, IfOk};
 ghost use Rattle.bulk_model.specs.Facts.{IsOptionList, IsDependList, IsFileList};
-ghost use Rattle.pkg_record.specs.Reading.{Gives, items_at, listed_at, option_at, depend_at, file_at};
+ghost use Rattle.pkg_record.specs.Reading.{Gives, items_at, listed_at, option_at, depend_at, file_at, lists_at};
 
 use crate::fault::ReadError;
 use crate::item_reader::{depend_item, file_item, option_item};
@@ -54,7 +54,7 @@ fn files_of(alloc: Global, count: u64, bytes: &[u8]) -> Result<(Files, &[u8]), R
 
 /// The options of a record.
 #[tactic(auto, unfolding(crate::specs::Reading::listed_at))]
-pub(crate) fn options(alloc: Global, bytes: &[u8]) -> Result<(Switches, &[u8]), ReadError>
+fn options(alloc: Global, bytes: &[u8]) -> Result<(Switches, &[u8]), ReadError>
     ensures read { Gives (λ x. (x.0, x.1.now)) result (listed_at (codes "options ") option_at bytes.now) }
     ensures form { IfOk result (λ x. IsOptionList x.0) }
 {
@@ -64,7 +64,7 @@ pub(crate) fn options(alloc: Global, bytes: &[u8]) -> Result<(Switches, &[u8]), 
 
 /// The dependencies of a record.
 #[tactic(auto, unfolding(crate::specs::Reading::listed_at))]
-pub(crate) fn depends(alloc: Global, bytes: &[u8]) -> Result<(Depends, &[u8]), ReadError>
+fn depends(alloc: Global, bytes: &[u8]) -> Result<(Depends, &[u8]), ReadError>
     ensures read { Gives (λ x. (x.0, x.1.now)) result (listed_at (codes "depends ") depend_at bytes.now) }
     ensures form { IfOk result (λ x. IsDependList x.0) }
 {
@@ -74,10 +74,26 @@ pub(crate) fn depends(alloc: Global, bytes: &[u8]) -> Result<(Depends, &[u8]), R
 
 /// The files of a record.
 #[tactic(auto, unfolding(crate::specs::Reading::listed_at))]
-pub(crate) fn files(alloc: Global, bytes: &[u8]) -> Result<(Files, &[u8]), ReadError>
+fn files(alloc: Global, bytes: &[u8]) -> Result<(Files, &[u8]), ReadError>
     ensures read { Gives (λ x. (x.0, x.1.now)) result (listed_at (codes "files ") file_at bytes.now) }
     ensures form { IfOk result (λ x. IsFileList 1018 x.0) }
 {
     let (count, rest) = count_line(b"files ", bytes)?;
     files_of(alloc, count, rest)
+}
+
+/// The lists of a record: its options, dependencies and files.
+pub(crate) fn lists(
+    alloc: Global,
+    bytes: &[u8],
+) -> Result<(Switches, Depends, Files, &[u8]), ReadError>
+    ensures read { Gives (λ x. (x.0, x.1, x.2, x.3.now)) result (lists_at bytes.now) }
+    ensures options { IfOk result (λ x. IsOptionList x.0) }
+    ensures depends { IfOk result (λ x. IsDependList x.1) }
+    ensures files { IfOk result (λ x. IsFileList 1018 x.2) }
+{
+    let (options, rest) = options(alloc, bytes)?;
+    let (depends, rest) = depends(alloc, rest)?;
+    let (files, rest) = files(alloc, rest)?;
+    Ok((options, depends, files, rest))
 }

@@ -12,7 +12,7 @@ ghost use Rattle.pkg_record.specs.Reading.{Gives, unsigned_at, last_at, record_o
 
 use crate::fault::{Fault, ReadError, RecordError, misfit};
 use crate::line_reader::{digest_line, flavor_line, name_line, origin_line, version_line};
-use crate::list_reader::{depends, files, options};
+use crate::list_reader::lists;
 use bulk_base::{NoMemory, Text};
 use bulk_model::Package;
 use sha2::{Digest, Sha256};
@@ -27,9 +27,7 @@ fn unsigned(alloc: Global, bytes: &[u8]) -> Result<(Package, &[u8]), ReadError>
     let (name, rest) = name_line(alloc, rest)?;
     let (origin, rest) = origin_line(alloc, rest)?;
     let (flavor, rest) = flavor_line(alloc, rest)?;
-    let (options, rest) = options(alloc, rest)?;
-    let (depends, rest) = depends(alloc, rest)?;
-    let (files, rest) = files(alloc, rest)?;
+    let (options, depends, files, rest) = lists(alloc, rest)?;
     let built = Package {
         name,
         origin,
@@ -75,10 +73,13 @@ fn refusal(size: usize, error: ReadError) -> RecordError
 
 /// Reads what stands behind a package's lines: the line with the digest of all bytes before it.
 fn verify(alloc: Global, bytes: &[u8], last: &[u8]) -> Result<(), RecordError>
-    ensures ok { OnOk result ((p : PackageView) → unsigned_at bytes.now ≡ Ok (p, last.now) → record_of bytes.now ≡ Ok p) }
-    ensures err { IfErr result (λ e. e ≢ RecordError.NoMemory → (p : PackageView) → unsigned_at bytes.now ≡ Ok (p, last.now)
+    ensures ok { OnOk result ((p : PackageView) → unsigned_at bytes.now ≡ Ok (p, last.now)
+        → record_of bytes.now ≡ Ok p) }
+    ensures err { IfErr result (λ e. e ≢ RecordError.NoMemory
+        → (p : PackageView) → unsigned_at bytes.now ≡ Ok (p, last.now)
         → record_of bytes.now ≡ Err e) }
-    ensures digest { IfErr result (λ e. (p : PackageView) → IsPackage p → unsigned_at bytes.now ≡ Ok (p, last.now)
+    ensures digest { IfErr result (λ e. (p : PackageView) → IsPackage p
+        → unsigned_at bytes.now ≡ Ok (p, last.now)
         → IsForDigest bytes.now e) }
 {
     let stated = match last_line(alloc, last) {
