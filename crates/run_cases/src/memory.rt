@@ -1,0 +1,5 @@
+// The objects in memory that cases are about, under one roof.
+pub(crate) use outside::{
+    Change, Item, Items, MemError, MemRoom, MemSink, MemStore, MemTree, OpenGate, Outer, Room,
+    Sink, Store, Tree,
+};
