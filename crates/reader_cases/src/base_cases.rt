@@ -1,10 +1,11 @@
 // Texts, paths, lines, words and numbers.
 use bulk_base::{
-    Path, PathError, Span, Text, TextError, decimal, is_text, lines, number, place_or_end, trim,
-    trim_start,
+    Path, PathError, Span, Text, TextError, decimal, in_order, is_text, lines, number,
+    numbered_line, place_or_end, trim, trim_start,
 };
 use case_text::{
-    CaseError, bytes_of, number_of, path_of, push_number, push_str, push_text, text_of, words_of,
+    CaseError, bytes_of, number_of, path_of, push_number, push_str, push_text, push_texts, text_of,
+    words_of,
 };
 use std::alloc::Global;
 
@@ -107,6 +108,35 @@ pub(crate) fn answer_lines(alloc: Global, field: &str, out: &mut Vec<u8>) -> Res
     Ok(())
 }
 
+/// The lines of a file with their numbers.
+pub(crate) fn answer_numbered(
+    alloc: Global,
+    field: &str,
+    out: &mut Vec<u8>,
+) -> Result<(), CaseError> {
+    let bytes = bytes_of(alloc, field)?;
+    if bytes.len() > 1_000_000 {
+        return Err(CaseError::Unfit);
+    }
+    let spans = lines(alloc, bytes.as_slice())?;
+    for at in 0..spans.len() {
+        let line = numbered_line(bytes.as_slice(), &spans, at);
+        push_number(alloc, out, u64::from(line.number))?;
+        push_str(out, "[")?;
+        out.extend_from_slice(line.text)?;
+        push_str(out, "]")?;
+    }
+    Ok(())
+}
+
+/// Words in byte order, each once.
+pub(crate) fn answer_order(alloc: Global, field: &str, out: &mut Vec<u8>) -> Result<(), CaseError> {
+    let words = words_of(alloc, field)?;
+    let ordered = in_order(alloc, words.as_slice())?;
+    push_texts(out, ordered.as_slice())?;
+    Ok(())
+}
+
 /// The part of a file between two places.
 pub(crate) fn answer_part(
     alloc: Global,
@@ -149,7 +179,7 @@ pub(crate) fn answer_trim(alloc: Global, field: &str, out: &mut Vec<u8>) -> Resu
     Ok(())
 }
 
-/// The number that a text spells, one more than it.
+/// The number that a text spells.
 pub(crate) fn answer_number(
     alloc: Global,
     field: &str,

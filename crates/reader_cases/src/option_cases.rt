@@ -3,9 +3,9 @@ use crate::vars_cases::{kind_name, vars_of};
 use bulk_base::{Switch, Text};
 use case_text::{CaseError, bytes_of, push_str, push_text, push_texts, text_of, words_of};
 use conf_file::{ConfError, ConfKind, MakeConf, read_make};
-use option_set::{Layers, OptionError, asked, choose, in_order, words_in};
+use option_set::{Layers, OptionError, asked, choose};
 use port_name::Origin;
-use port_vars::Vars;
+use port_vars::{Vars, words_in};
 use std::alloc::{AllocError, Global};
 
 /// Puts options at the end, `+` before those that are on and `-` before the others.
@@ -107,12 +107,6 @@ pub(crate) fn answer_words_of(
     let vars = vars_of(alloc, vars)?;
     let found = words_in(alloc, &vars, &text_of(alloc, name)?)?;
     Ok(push_texts(out, found.as_slice())?)
-}
-
-/// Words in byte order, each once.
-pub(crate) fn answer_order(alloc: Global, field: &str, out: &mut Vec<u8>) -> Result<(), CaseError> {
-    let words = words_of(alloc, field)?;
-    Ok(push_texts(out, in_order(alloc, words.as_slice())?.as_slice())?)
 }
 
 fn push_fault(alloc: Global, fault: ConfError, out: &mut Vec<u8>) -> Result<(), AllocError> {

@@ -1,5 +1,5 @@
 // Records that are read, written again and refused.
-use bulk_model::{DepKind, Package};
+use bulk_model::{DepKind, Package, weight};
 use case_text::{CaseError, bytes_of, number_of, push_number, push_str, push_text};
 use pkg_record::{RecordError, read, write};
 use std::alloc::{AllocError, Global};
@@ -81,6 +81,8 @@ fn push_package(
     push_options(out, package)?;
     push_depends(out, package)?;
     push_files(out, package)?;
+    push_str(out, "; weight ")?;
+    push_number(alloc, out, weight(package))?;
     let again = write(alloc, package)?;
     push_str(
         out,

@@ -51,6 +51,19 @@ pub(crate) fn push_done(done: &Result<(), Outer>, out: &mut Vec<u8>) -> Result<(
     )
 }
 
+/// Puts the names at the end of the store that a stop behind so many changes leaves, or that there were fewer changes.
+fn push_stopped(
+    alloc: Global,
+    store: &MemStore,
+    changes: &str,
+    out: &mut Vec<u8>,
+) -> Result<(), CaseError> {
+    match store.stopped(alloc, number_of(changes)?)? {
+        Some(mut left) => Ok(push_names(&left.names(alloc), out)?),
+        None => Ok(push_str(out, "fewer changes")?),
+    }
+}
+
 /// Puts at the end what a call of the store answers.
 fn push_call(
     alloc: Global,
@@ -71,6 +84,7 @@ fn push_call(
                 out,
             )?)
         }
+        ["stopped", changes] => push_stopped(alloc, store, changes, out),
         ["remove", name] => Ok(push_done(&store.remove(alloc, &text_of(alloc, name)?), out)?),
         _ => Err(CaseError::Unfit),
     }
