@@ -5,8 +5,12 @@
 mod graphs;
 mod loops;
 mod making;
+mod plans;
+mod threes;
+mod worked;
 
 use case_text::{CaseError, shown_answer};
+use loop_report::an_order_or_a_loop;
 use std::alloc::{AllocError, Global};
 use std::io;
 
@@ -16,6 +20,13 @@ fn answer(alloc: Global, case: &[&str], out: &mut Vec<u8>) -> Result<(), CaseErr
         ["reach", lists, from] => graphs::answer_reach(alloc, lists, from, out),
         ["loop", lists] => loops::answer_loop(alloc, lists, out),
         ["chain", count, closed_to] => loops::answer_chain(alloc, count, closed_to, out),
+        ["installs for a chain", first, second, node] => {
+            threes::answer_chain(alloc, [first, second, node], out)
+        }
+        ["installs for a fan", first, second, node] => {
+            threes::answer_fan(alloc, [first, second, node], out)
+        }
+        ["cause", "of a port that runs an ignored one"] => plans::answer_cause(alloc, out),
         _ => Err(CaseError::Unfit),
     }
 }
@@ -32,6 +43,9 @@ fn answer_line(alloc: Global, line: &str) -> Result<String, AllocError> {
 }
 
 fn main(rt: HostRuntime) -> io::Result<()> {
+    worked::examples();
+    dep_graph::laws();
+    an_order_or_a_loop();
     let alloc = rt.alloc();
     for line in rt.lines(alloc) {
         let answer = answer_line(alloc, line?.as_str())?;

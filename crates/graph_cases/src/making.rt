@@ -22,6 +22,14 @@ fn kind_of(letter: char) -> DepKind {
     }
 }
 
+/// The kind that a field names by its letter. Unfit where it is empty.
+pub(crate) fn kind_named(field: &str) -> Result<DepKind, CaseError> {
+    match field.chars().next() {
+        Some(letter) => Ok(kind_of(letter)),
+        None => Err(CaseError::Unfit),
+    }
+}
+
 /// The edge of a word: a letter for the kind, perhaps, and the number of a node.
 fn edge_of(word: &str) -> Result<Edge, CaseError> {
     let (kind, number) = match word.chars().next() {

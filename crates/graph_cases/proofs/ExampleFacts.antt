@@ -8,7 +8,7 @@ use Rattle.std.specs.Ordering.{nat_cmp}
 use Rattle.bulk_base.specs.Names.{IsOrigin, IsPackageName}
 use Rattle.bulk_model.specs.Facts.{IsJob}
 use Rattle.bulk_model.specs.PlanFacts.{IsPlan}
-use Rattle.bulk_model.specs.Examples.{bare, ignoring}
+use Rattle.graph_cases.specs.Examples.{bare, ignoring}
 
 none_ascend : IsStrictlySortedBy (slice_cmp nat_cmp) []
 unfolding IsStrictlySortedBy

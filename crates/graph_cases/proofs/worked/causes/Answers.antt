@@ -1,5 +1,5 @@
 use Rattle.std.proofs.Common.{refl}
-use Rattle.bulk_model.proofs.tests.causes.Goals as goal
+use Rattle.graph_cases.proofs.worked.causes.Goals as goal
 
 pub returns-clause-through_the_skipped : goal.returns-clause-through_the_skipped
 returns-clause-through_the_skipped c = refl

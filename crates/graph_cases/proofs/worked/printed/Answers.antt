@@ -1,6 +1,6 @@
 use Rattle.std.proofs.Common.{refl}
-use Rattle.bulk_model.proofs.Counts.{none_counted, one_counted, two_counted, three_counted}
-use Rattle.bulk_model.proofs.tests.printed.Goals as goal
+use Rattle.graph_cases.proofs.Counts.{none_counted, one_counted, two_counted, three_counted}
+use Rattle.graph_cases.proofs.worked.printed.Goals as goal
 
 pub returns-clause-failed : goal.returns-clause-failed
 returns-clause-failed c = simp (none_counted, one_counted, two_counted, three_counted) refl

@@ -1,5 +1,5 @@
 use Rattle.std.proofs.Common.{refl}
-use Rattle.bulk_model.proofs.tests.builds.Goals as goal
+use Rattle.graph_cases.proofs.worked.builds.Goals as goal
 
 pub returns-clause-unknown : goal.returns-clause-unknown
 returns-clause-unknown c = refl

@@ -1,5 +1,5 @@
 use Rattle.std.proofs.Common.{refl}
-use Rattle.bulk_model.proofs.tests.installed.Goals as goal
+use Rattle.graph_cases.proofs.worked.installed.Goals as goal
 
 pub returns-clause-direct : goal.returns-clause-direct
 returns-clause-direct c = refl

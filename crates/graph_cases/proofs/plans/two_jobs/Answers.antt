@@ -1,5 +1,5 @@
-use Rattle.bulk_model.proofs.ExampleFacts.{ignored_name, ignored_origin, user_name, user_origin}
-use Rattle.bulk_model.proofs.tests.two_jobs.Goals as goal
+use Rattle.graph_cases.proofs.ExampleFacts.{ignored_name, ignored_origin, user_name, user_origin}
+use Rattle.graph_cases.proofs.plans.two_jobs.Goals as goal
 
 pub port-requires-clause-name : goal.port-requires-clause-name
 port-requires-clause-name c = rw (c.in_ok-name.ensures) ignored_name

@@ -1,19 +1,13 @@
-// Worked examples of the definitions, which the prover computes.
-ghost use Rattle.std.specs.Prelude.{◌≡◌, [], ◌∷◌, codes, Some, None, map, IfOk};
-ghost use Rattle.bulk_base.specs.Names.{IsPackageName, IsOrigin};
+// Worked examples of the definitions of builds, statuses, causes and printed lists, which the prover computes.
+ghost use Rattle.std.specs.Prelude.{◌≡◌, [], ◌∷◌, codes, Some, None, map};
 ghost use Rattle.bulk_model.specs.declared.outcome.Outcome.TheVariants.{Built as MadePackage, Failed as FailedBuild};
 ghost use Rattle.bulk_model.specs.declared.outcome.Phase.TheVariants.{Depends as DependsPhase, Build as BuildPhase, Stage as StagePhase};
 ghost use Rattle.bulk_model.specs.declared.reason.Reason.TheVariants.{NewOptions, MissingDepend};
 ghost use Rattle.bulk_model.specs.declared.results.Status.TheVariants.{Failed, Ignored, Skipped};
 ghost use Rattle.bulk_model.specs.Cause.{cause};
-ghost use Rattle.bulk_model.specs.Examples.{port_with, package_with, baked, plain, made, made_by, built, kept, come, come_over, text, diamond, fork, ladder, ignoring, tools, bare};
+ghost use Rattle.graph_cases.specs.Examples.{port_with, package_with, baked, plain, made, made_by, built, kept, come, come_over, text, diamond, fork, ladder, ignoring, tools, bare};
 ghost use Rattle.bulk_model.specs.Installs.{installs};
 ghost use Rattle.bulk_model.specs.Lists.{lists, exit_status};
-
-use super::*;
-use bulk_base::{NoMemory, Sequence, Text};
-use std::alloc::Global;
-use std::test::Fail;
 
 fn builds()
     ensures unknown { baked (port_with (codes "x") [] (codes "cc hello.c" ∷ [])) [] ≡ FailedBuild StagePhase 127 }
@@ -49,97 +43,8 @@ fn printed()
     ensures none { exit_status (Ignored ∷ kept (codes "u") ∷ []) ≡ 0 }
 {}
 
-fn port(alloc: Global, name: Text, origin: Text) -> Job
-    requires name { IsPackageName name }
-    requires origin { IsOrigin origin }
-    ensures { result ≡ bare name origin }
-{
-    Job {
-        name,
-        origin,
-        flavor: None,
-        options: Sequence::new(alloc),
-        depends: Sequence::new(alloc),
-        steps: Steps {
-            extract: Sequence::new(alloc),
-            patch: Sequence::new(alloc),
-            configure: Sequence::new(alloc),
-            build: Sequence::new(alloc),
-            stage: Sequence::new(alloc),
-        },
-        files: Sequence::new(alloc),
-    }
-}
-
-fn two_jobs(alloc: Global) -> Result<Jobs, NoMemory>
-    ensures { IfOk result (λ jobs. jobs ≡ ignoring.jobs) }
-{
-    let mut jobs = Sequence::new(alloc);
-    let (name, origin) = (
-        Text::literal(alloc, b"i-1.0")?,
-        Text::literal(alloc, b"a/i")?,
-    );
-    jobs.push(port(alloc, name, origin))?;
-    let (name, origin) = (
-        Text::literal(alloc, b"u-1.0")?,
-        Text::literal(alloc, b"a/u")?,
-    );
-    jobs.push(port(alloc, name, origin))?;
-    Ok(jobs)
-}
-
-fn one_edge(alloc: Global) -> Result<EdgeLists, NoMemory>
-    ensures { IfOk result (λ edges. edges ≡ ignoring.edges) }
-{
-    let mut runs_it = Sequence::new(alloc);
-    runs_it.push(Edge {
-        kind: DepKind::Run,
-        to: 0,
-    })?;
-    let mut edges = Sequence::new(alloc);
-    edges.push(Sequence::new(alloc))?;
-    edges.push(runs_it)?;
-    Ok(edges)
-}
-
-fn one_ignored(alloc: Global) -> Result<MaybeTexts, NoMemory>
-    ensures { IfOk result (λ ignored. ignored ≡ ignoring.ignored) }
-{
-    let mut ignored = Sequence::new(alloc);
-    ignored.push(Some(Text::literal(alloc, b"no")?))?;
-    ignored.push(None)?;
-    Ok(ignored)
-}
-
-fn ignored_pair(alloc: Global) -> Result<Plan, NoMemory>
-    ensures { IfOk result (λ plan. plan ≡ ignoring) }
-{
-    let jobs = two_jobs(alloc)?;
-    let edges = one_edge(alloc)?;
-    let ignored = one_ignored(alloc)?;
-    Ok(Plan {
-        jobs,
-        edges,
-        ignored,
-        wanted: Sequence::new(alloc),
-        base: Sequence::new(alloc),
-    })
-}
-
-#[test]
-fn the_cause_of_a_skip(rt: HostRuntime) -> Result<(), Fail> {
-    let alloc = rt.alloc();
-    let plan = ignored_pair(alloc)?;
-    let mut statuses = Sequence::new(alloc);
-    statuses.push(Status::Ignored)?;
-    statuses.push(Status::Skipped)?;
-    let results = Results { statuses };
-    assert_eq!(rt; cause(&plan, &results, 1), 0);
-    Ok(())
-}
-
-#[test]
-fn examples() {
+/// The examples, which hold; it does nothing.
+pub(crate) fn examples() {
     builds();
     installed();
     statuses();

@@ -1,5 +1,5 @@
-use Rattle.bulk_model.proofs.ExampleFacts.{is_job}
-use Rattle.bulk_model.proofs.tests.port.Goals as goal
+use Rattle.graph_cases.proofs.ExampleFacts.{is_job}
+use Rattle.graph_cases.proofs.plans.port.Goals as goal
 
 pub invariant_of-result : goal.invariant_of-result
 invariant_of-result c =

@@ -1,5 +1,5 @@
 use Rattle.std.proofs.Common.{refl}
-use Rattle.bulk_model.proofs.tests.statuses.Goals as goal
+use Rattle.graph_cases.proofs.worked.statuses.Goals as goal
 
 pub returns-clause-all_built : goal.returns-clause-all_built
 returns-clause-all_built c = refl
