@@ -1,4 +1,2 @@
 pub mod PlanEdges
 mod Setbacks
-mod Counts
-mod ExampleFacts

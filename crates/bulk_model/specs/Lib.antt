@@ -13,4 +13,3 @@ pub mod Cause
 pub mod Lists
 pub mod Sound
 pub mod Baked
-pub mod Examples

@@ -12,8 +12,6 @@ mod results;
 mod shared;
 mod skip;
 mod steps;
-#[cfg(test)]
-mod tests;
 
 pub use baking::Baking;
 pub use depend::{DepKind, Depend, Depends};

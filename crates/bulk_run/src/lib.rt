@@ -20,8 +20,6 @@ mod ports_wanted;
 mod refusal;
 mod room_build;
 mod staging;
-#[cfg(test)]
-mod tests;
 mod top;
 mod tree_answer;
 mod unserved;

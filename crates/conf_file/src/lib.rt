@@ -3,8 +3,6 @@
 
 mod fault;
 mod make;
-#[cfg(test)]
-mod tests;
 
 pub use fault::{ConfError, ConfKind};
 pub use make::{MakeConf, read_make};

@@ -6,8 +6,6 @@ mod entry;
 mod fault;
 mod line;
 mod moved;
-#[cfg(test)]
-mod tests;
 mod walk;
 
 pub use chain::Follow;

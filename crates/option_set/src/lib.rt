@@ -3,8 +3,6 @@
 
 mod asking;
 mod choice;
-#[cfg(test)]
-mod choice_tests;
 mod defining;
 mod fault;
 mod group;
@@ -17,8 +15,6 @@ mod prevented;
 mod read;
 mod refusal;
 mod stack;
-#[cfg(test)]
-mod tests;
 
 pub use asking::asked;
 pub use choice::choose;

@@ -8,8 +8,6 @@ mod line_reader;
 mod list_reader;
 mod record_reader;
 mod record_writer;
-#[cfg(test)]
-mod tests;
 mod words;
 
 pub use fault::RecordError;

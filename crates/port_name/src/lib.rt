@@ -6,8 +6,6 @@ mod form;
 mod names;
 mod package;
 mod place;
-#[cfg(test)]
-mod tests;
 mod word;
 
 pub use fault::{NameError, NamePart};

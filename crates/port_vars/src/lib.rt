@@ -10,8 +10,6 @@ mod name;
 mod operator;
 mod piece;
 mod reference;
-#[cfg(test)]
-mod tests;
 mod value_words;
 mod vars;
 

@@ -1,0 +1,89 @@
+// Runs, and what they leave.
+use crate::endings::answer_name;
+use crate::memory::{Items, MemRoom, MemSink, MemStore, Outer, Store};
+use crate::stores::{items_of, push_names};
+use crate::trees::tree_of;
+use bulk_base::{Text, Texts};
+use bulk_run::{Closed, bulk_alone};
+use case_text::{
+    CaseError, fails_of, files_of, push_number, push_str, push_texts, text_of, words_of,
+};
+use std::alloc::{AllocError, Global};
+
+/// How a run ended, and the objects that it leaves.
+#[derive(Drop)]
+struct Ran {
+    closed: Closed,
+    store: MemStore,
+    room: MemRoom,
+    out: MemSink,
+}
+
+fn run(
+    alloc: Global,
+    words: &[Text],
+    files: &str,
+    items: Items,
+    fails: &str,
+) -> Result<Ran, CaseError> {
+    let mut tree = tree_of(alloc, files_of(alloc, files)?, fails)?;
+    let mut store = MemStore::new(alloc, items, fails_of(alloc, fails, "store")?)?;
+    let mut room = MemRoom::new(alloc, fails_of(alloc, fails, "room")?)?;
+    let mut out = MemSink::new(alloc, fails_of(alloc, fails, "sink")?)?;
+    let closed = bulk_alone(alloc, words, &mut tree, &mut store, &mut room, &mut out);
+    Ok(Ran {
+        closed,
+        store,
+        room,
+        out,
+    })
+}
+
+/// Puts at the end what came of a run.
+fn push_ran(
+    alloc: Global,
+    ran: &Ran,
+    names: &Result<Texts, Outer>,
+    out: &mut Vec<u8>,
+) -> Result<(), AllocError> {
+    push_number(alloc, out, u64::from(ran.closed.status))?;
+    push_str(out, " ")?;
+    push_str(out, answer_name(&ran.closed.answer))?;
+    push_str(out, "; store ")?;
+    push_names(names, out)?;
+    push_str(out, "; begun")?;
+    push_texts(out, ran.room.begun())?;
+    push_str(out, "; ")?;
+    out.extend_from_slice(ran.out.written())
+}
+
+/// A run over a tree and a store with empty files, in which some calls of each object fail: its status, how it ended, the names in the
+/// store, the builds that were begun, and what was printed.
+pub(crate) fn answer_run(
+    alloc: Global,
+    [words, files, store, fails]: [&str; 4],
+    out: &mut Vec<u8>,
+) -> Result<(), CaseError> {
+    let words = words_of(alloc, words)?;
+    let items = items_of(alloc, store)?;
+    let mut ran = run(alloc, words.as_slice(), files, items, fails)?;
+    let names = ran.store.names(alloc);
+    Ok(push_ran(alloc, &ran, &names, out)?)
+}
+
+/// What a run leaves in the store under a name.
+pub(crate) fn answer_stored(
+    alloc: Global,
+    [words, files, name]: [&str; 3],
+    out: &mut Vec<u8>,
+) -> Result<(), CaseError> {
+    let words = words_of(alloc, words)?;
+    let items = items_of(alloc, "")?;
+    let mut ran = run(alloc, words.as_slice(), files, items, "")?;
+    let name = text_of(alloc, name)?;
+    match ran.store.get(alloc, &name, 1_000_000) {
+        Ok(Some(bytes)) => Ok(out.extend_from_slice(bytes.as_slice())?),
+        Ok(None) => Ok(push_str(out, "none")?),
+        Err(_) => Err(CaseError::Unfit),
+    }
+}
