@@ -1,5 +1,5 @@
 -- Nodes of whole ports in the byte order of their names.
-use Rattle.std.proofs.Common.{◌≡◌, ℕ, ◌≤◌, ◌<◌, List, sym, subst, ◌∙◌, length, arith}
+use Rattle.std.proofs.Common.{◌≡◌, ℕ, ◌≤◌, List, sym, subst, ◌∙◌, length, arith}
 use Rattle.std.specs.Prelude.{map, filter, bytes_eq}
 use Rattle.std.specs.List.{IsDistinct}
 use Rattle.bulk_base.proofs.MapView.{keys_ascend}
