@@ -11,7 +11,7 @@ use crate::dependencies::entries_of;
 use crate::entry::Entries;
 use crate::fault::DescError;
 use crate::naming::name_for;
-use crate::reasons::reason_for;
+use crate::reasons::reasons_for;
 use crate::values::names_on;
 use bulk_base::{NoMemory, Switches, Text};
 use bulk_model::Steps;
@@ -47,13 +47,15 @@ fn desc_with(
 ) -> Result<Desc, NoMemory>
     ensures { IfOk result (λ desc. desc ≡ desc_with (map.get vars.now) (option_copied flavor.entry) on.now name entries) }
 {
+    let steps = steps_for(alloc, vars, flavor, on)?;
+    let reasons = reasons_for(alloc, vars, flavor)?;
     Ok(Desc {
         name,
-        steps: steps_for(alloc, vars, flavor, on)?,
+        steps,
         entries,
-        ignore: reason_for(alloc, vars, flavor, b"", b"IGNORE")?,
-        forbidden: reason_for(alloc, vars, flavor, b"is forbidden: ", b"FORBIDDEN")?,
-        broken: reason_for(alloc, vars, flavor, b"is marked as broken: ", b"BROKEN")?,
+        ignore: reasons.ignore,
+        forbidden: reasons.forbidden,
+        broken: reasons.broken,
     })
 }
 

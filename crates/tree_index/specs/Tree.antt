@@ -18,6 +18,7 @@ use Rattle.moved_list.specs.Moved.{moved_of}
 use Rattle.tree_index.specs.declared.fault.IndexError.{IndexError}
 use Rattle.tree_index.specs.declared.fault.IndexError.TheVariants.{Limit, DupName}
 use Rattle.tree_index.specs.declared.node.NodeInfo.{NodeInfo}
+use Rattle.tree_index.specs.declared.tree_reading.TheConstants.{MOST_NODES}
 use Rattle.tree_index.specs.Places.{categories_file, moved_file, ports_file}
 use Rattle.tree_index.specs.Faults.{moved_fault, refused_as}
 use Rattle.tree_index.specs.VarFiles.{listed_in}
@@ -76,13 +77,9 @@ by_name nodes = fold (λ map node. finite.insert map node.node node) finite.empt
 unfoldable pub ordered : List NodeInfo → List NodeInfo
 ordered nodes = finite.values (by_name nodes)
 
--- the most nodes of a tree that is read
-abbrev pub most_nodes : ℕ
-most_nodes = 16384
-
--- no more than the most nodes
+-- no more than the most nodes of a tree that is read
 unfoldable pub few : List NodeInfo → Result (List NodeInfo) IndexError
-few nodes = if nat_le (length nodes) most_nodes then Ok nodes else Err (Limit Nodes (length nodes))
+few nodes = if nat_le (length nodes) MOST_NODES then Ok nodes else Err (Limit Nodes (length nodes))
 
 -- two nodes have packages of one name
 abbrev pub are_twins : NodeInfo → NodeInfo → Bool

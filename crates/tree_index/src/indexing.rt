@@ -2,7 +2,7 @@
 ghost use Rattle.std.specs.Prelude.{◌≡◌, ◌≢◌, ◌≤◌, ◌||◌, length, IsTrue, IfOk, IfErr, Ok, Err};
 ghost use Rattle.tree_index.specs.Facts.{AreTreeNodes, IsCaused};
 ghost use Rattle.tree_index.specs.Index.{index_with, index_of};
-ghost use Rattle.tree_index.specs.Tree.{most_nodes};
+ghost use Rattle.tree_index.specs.declared.tree_reading.TheConstants.{MOST_NODES};
 
 use crate::fault::IndexError;
 use crate::name_list::names_of;
@@ -62,7 +62,7 @@ pub fn index<T: Tree>(
 ) -> Result<Index, IndexError>
     ensures ok { IsTrue T.tells → IfOk result (λ index. index_of make.now (make.now.try_broken || try_broken) (T.content tree.old) ≡ Ok index) }
     ensures refused { IsTrue T.tells → IfErr result (λ e. e ≢ IndexError.NoMemory → e ≢ IndexError.TreeFault → index_of make.now (make.now.try_broken || try_broken) (T.content tree.old) ≡ Err e) }
-    ensures few { IfOk result (λ index. length index.nodes ≤ most_nodes) }
+    ensures few { IfOk result (λ index. length index.nodes ≤ MOST_NODES) }
     ensures same { T.content tree.new ≡ T.content tree.old }
     ensures cause { IsCaused (T.faults tree.old) (T.faults tree.new) result }
 {

@@ -9,9 +9,9 @@ use crate::fault::{IndexError, PortKind};
 use crate::port_fault::bad_port;
 use crate::var_file::read_vars_at;
 use bulk_base::{Path, Text, Texts, in_order};
-use port_vars::words_in;
 use outside::Tree;
 use port_name::is_port_name;
+use port_vars::words_in;
 use std::alloc::Global;
 
 fn is_no_port_name(word: &Text) -> bool

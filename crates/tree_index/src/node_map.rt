@@ -19,9 +19,16 @@ fn put_under_name(
 ) -> Result<(), NoMemory>
     ensures { OnOk result (map.new.entries ≡ insert_entry (slice_cmp nat_cmp) map.old.entries node.node node) }
 {
-    let name = node.node.copy(alloc)?;
-    map.insert(name, node)?;
-    Ok(())
+    match node.node.copy(alloc) {
+        Ok(name) => {
+            drop(map.insert(name, node)?);
+            Ok(())
+        }
+        Err(refused) => {
+            drop(node);
+            Err(refused)
+        }
+    }
 }
 
 // Nodes by their names; of nodes with one name the last.

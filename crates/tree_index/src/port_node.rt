@@ -94,23 +94,23 @@ fn make_node(
 ) -> Result<NodeInfo, NoMemory>
     ensures { IfOk result (λ node. node ≡ ports.node_with try_broken origin.now (option_copied flavor.entry) is_default options.now desc) }
 {
-    let parts = copy_parts(
-        alloc,
-        origin,
-        flavor,
-        options,
-        find_ignored_reason(try_broken, &desc),
-    )?;
-    Ok(NodeInfo {
-        node: parts.node,
-        origin: parts.origin,
-        flavor: parts.flavor,
-        is_default,
-        desc,
-        options: parts.options,
-        ignored: parts.ignored,
-        targets: Sequence::new(alloc),
-    })
+    let ignored = find_ignored_reason(try_broken, &desc);
+    match copy_parts(alloc, origin, flavor, options, ignored) {
+        Ok(parts) => Ok(NodeInfo {
+            node: parts.node,
+            origin: parts.origin,
+            flavor: parts.flavor,
+            is_default,
+            desc,
+            options: parts.options,
+            ignored: parts.ignored,
+            targets: Sequence::new(alloc),
+        }),
+        Err(refused) => {
+            drop(desc);
+            Err(refused)
+        }
+    }
 }
 
 /// The node of a flavor, or of a port without flavors, or what is wrong with the port's variables. Where its dependencies

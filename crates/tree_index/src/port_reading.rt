@@ -8,6 +8,7 @@ ghost use Rattle.tree_index.specs.Facts.{IsPlace, ArePortNodes, IsCaused};
 ghost use Rattle.tree_index.specs.Faults as faults;
 ghost use Rattle.tree_index.specs.Places as places;
 ghost use Rattle.tree_index.specs.PortNodes as ports;
+ghost use Rattle.tree_index.specs.VarFiles as files;
 
 use crate::fault::IndexError;
 use crate::node::{NodeInfo, NodeInfos};
@@ -143,6 +144,20 @@ fn nodes_by(
     }
 }
 
+// The variables of a port's options file, none where there is no such file.
+fn read_options<T: Tree>(alloc: Global, tree: &mut T, origin: &Origin) -> Result<Vars, IndexError>
+    requires { IsPlace origin.now }
+    ensures ok { IsTrue T.tells → IfOk result (λ vars.
+        files.vars_if_there (T.content tree.old) (places.options_file origin.now) ≡ Ok vars) }
+    ensures refused { IsTrue T.tells → IfErr result (λ e. e ≢ IndexError.NoMemory → e ≢ IndexError.TreeFault
+        → files.vars_if_there (T.content tree.old) (places.options_file origin.now) ≡ Err e) }
+    ensures same { T.content tree.new ≡ T.content tree.old }
+    ensures cause { IsCaused (T.faults tree.old) (T.faults tree.new) result }
+{
+    let path = options_file(alloc, origin)?;
+    read_vars_if_there(alloc, tree, &path)
+}
+
 /// The nodes of a port, the default first, the others in the order of FLAVORS (docs/FORMATS.md, "The tree folder"). Where
 /// their dependencies lead is not known yet. `try_broken` says whether BROKEN is passed over.
 ///
@@ -165,7 +180,7 @@ pub(crate) fn read_port<T: Tree>(
     ensures same { T.content tree.new ≡ T.content tree.old }
     ensures cause { IsCaused (T.faults tree.old) (T.faults tree.new) result }
 {
-    let file = read_vars_if_there(alloc, tree, &options_file(alloc, origin)?)?;
+    let file = read_options(alloc, tree, origin)?;
     let path = port_file(alloc, origin)?;
     let vars = read_vars_at(alloc, tree, &path)?;
     nodes_by(alloc, make, try_broken, origin, &file, &vars, &path)

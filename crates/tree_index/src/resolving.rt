@@ -71,8 +71,16 @@ fn resolve_node(
 ) -> Result<NodeInfo, NoMemory>
     ensures { IfOk result (λ resolved. (nodes : List Info) → AreOf nodes numbers.now names.now → resolved ≡ with_targets info (dependencies.targets_of nodes moved.now info)) }
 {
-    info.targets = resolve_entries(alloc, numbers, names, moved, info.desc.entries.as_slice())?;
-    Ok(info)
+    match resolve_entries(alloc, numbers, names, moved, info.desc.entries.as_slice()) {
+        Ok(targets) => {
+            info.targets = targets;
+            Ok(info)
+        }
+        Err(refused) => {
+            drop(info);
+            Err(refused)
+        }
+    }
 }
 
 /// Nodes with the targets of their entries, by the numbers of all nodes, their names and what MOVED says.

@@ -2,7 +2,8 @@
 ghost use Rattle.std.specs.Prelude.{◌≡◌, ◌≢◌, ◌≤◌, length, Ok, Err, IsTrue, IfOk, IfErr, OnOk};
 ghost use Rattle.tree_index.specs.Facts.{IsCaused, AreTreeNodes};
 ghost use Rattle.tree_index.specs.Gathered.{AreWhole, IsNameList};
-ghost use Rattle.tree_index.specs.Tree.{few, most_nodes, accepted, nodes_in, tree_nodes};
+ghost use Rattle.tree_index.specs.declared.tree_reading.TheConstants.{MOST_NODES};
+ghost use Rattle.tree_index.specs.Tree.{few, accepted, nodes_in, tree_nodes};
 
 use crate::category::read_categories;
 use crate::fault::IndexError;
@@ -27,7 +28,7 @@ const MOST_NODES: usize = 16_384;
 pub(crate) fn refuse_many(nodes: &[NodeInfo]) -> Result<(), IndexError>
     ensures ok { OnOk result (few nodes.now ≡ Ok nodes.now) }
     ensures refused { IfErr result (λ e. few nodes.now ≡ Err e) }
-    ensures form { OnOk result (length nodes.now ≤ most_nodes) }
+    ensures form { OnOk result (length nodes.now ≤ MOST_NODES) }
     ensures quiet { IfErr result (λ e. e ≢ IndexError.TreeFault) }
 {
     if nodes.len() > MOST_NODES {
@@ -45,7 +46,7 @@ fn accept(alloc: Global, found: NodeInfos) -> Result<NodeInfos, IndexError>
     ensures ok { IfOk result (λ nodes. accepted found ≡ Ok nodes) }
     ensures refused { IfErr result (λ e. e ≢ IndexError.NoMemory → accepted found ≡ Err e) }
     ensures form { AreWhole found → IfOk result AreTreeNodes }
-    ensures few { IfOk result (λ nodes. length nodes ≤ most_nodes) }
+    ensures few { IfOk result (λ nodes. length nodes ≤ MOST_NODES) }
     ensures quiet { IfErr result (λ e. e ≢ IndexError.TreeFault) }
 {
     let nodes = in_name_order(alloc, found)?;
@@ -68,7 +69,7 @@ fn read_nodes<T: Tree>(
     ensures refused { IsTrue T.tells → IfErr result (λ e. e ≢ IndexError.NoMemory → e ≢ IndexError.TreeFault
         → nodes_in make.now try_broken (T.content tree.old) categories.now ≡ Err e) }
     ensures form { IfOk result AreTreeNodes }
-    ensures few { IfOk result (λ nodes. length nodes ≤ most_nodes) }
+    ensures few { IfOk result (λ nodes. length nodes ≤ MOST_NODES) }
     ensures same { T.content tree.new ≡ T.content tree.old }
     ensures cause { IsCaused (T.faults tree.old) (T.faults tree.new) result }
 {
@@ -94,7 +95,7 @@ pub(crate) fn read_tree<T: Tree>(
     ensures ok { IsTrue T.tells → IfOk result (λ listed. tree_nodes make.now try_broken (T.content tree.old) ≡ Ok listed) }
     ensures refused { IsTrue T.tells → IfErr result (λ e. e ≢ IndexError.NoMemory → e ≢ IndexError.TreeFault → tree_nodes make.now try_broken (T.content tree.old) ≡ Err e) }
     ensures form { IfOk result (λ listed. AreTreeNodes listed.1) }
-    ensures few { IfOk result (λ listed. length listed.1 ≤ most_nodes) }
+    ensures few { IfOk result (λ listed. length listed.1 ≤ MOST_NODES) }
     ensures same { T.content tree.new ≡ T.content tree.old }
     ensures cause { IsCaused (T.faults tree.old) (T.faults tree.new) result }
 {

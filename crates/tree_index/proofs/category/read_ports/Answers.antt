@@ -36,7 +36,7 @@ returns-in_err-read_port-clause-refused g c t =
     let place : c.in_ok-origin.origin ≡ (let o : Origin = record { category = category; port = port } in o) = (λ i. record { category = c.in_ok-origin.ensures.category i; port = c.in_ok-origin.ensures.port i }) in
     rw (p.1, p.2) (λ some no_fault.
     let read : port_nodes make c.args.try_broken content (record { category = category; port = port }) ≡ Err c.in_err-read_port.field-0.0 =
-    ap (port_nodes make c.args.try_broken content) (sym place) ∙ ap (λ m. port_nodes make c.args.try_broken m c.in_ok-origin.origin) (sym c.loop-port.invariant.same) ∙ c.in_err-read_port.ensures.refused t some no_fault in
+    (λ i. port_nodes make c.args.try_broken (sym c.loop-port.invariant.same i) (sym place i)) ∙ c.in_err-read_port.ensures.refused t some no_fault in
     ap (nodes_of_ports make c.args.try_broken content category) (sym c.as_slice-port-items.ensures)
     ∙ turn_fault (λ port. port_nodes make c.args.try_broken content (record { category = category; port = port })) ports c.loop-port.port-index port c.loop-port.nodes.items c.in_err-read_port.field-0.0
     (nodes_of_ports make c.args.try_broken content category ports) c.loop-port-test.true c.port-item.is read (c.loop-port.invariant.told t))
@@ -59,7 +59,7 @@ loop-port-preserved g c =
     record {
       told = λ t.
           let read : port_nodes make c.args.try_broken content (record { category = category; port = port }) ≡ Ok found =
-          ap (port_nodes make c.args.try_broken content) (sym place) ∙ ap (λ m. port_nodes make c.args.try_broken m origin) (sym c.loop-port.invariant.same) ∙ c.in_ok-read_port.ensures.ok t in
+          (λ i. port_nodes make c.args.try_broken (sym c.loop-port.invariant.same i) (sym place i)) ∙ c.in_ok-read_port.ensures.ok t in
           turn_next (λ port. port_nodes make c.args.try_broken content (record { category = category; port = port })) ports at port nodes found now (nodes_of_ports make c.args.try_broken content category ports)
           within c.port-item.is read more (c.loop-port.invariant.told t);
       whole = with_port origin ports at port nodes found now within c.port-item.is c.in_ok-origin.ensures.port c.in_ok-read_port.ensures.form more c.loop-port.invariant.whole c.loop-port.invariant.before;
