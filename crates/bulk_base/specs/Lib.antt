@@ -5,6 +5,7 @@ pub mod Trim
 pub mod Number
 pub mod Lines
 pub mod Names
+pub mod Marks
 pub mod Order
 pub mod Least
 pub mod Totals

@@ -23,7 +23,7 @@ pub use numeral::{decimal, number};
 pub use order::{in_order, lower};
 pub use path::{Path, PathError, Paths};
 pub use path_map::PathMap;
-pub use place::place_or_end;
+pub use place::{cut, place_or_end};
 pub use sequence::{Bytes, NoMemory, Sequence};
 pub use text::{Text, TextError, Texts, is_text};
 pub use text_map::TextMap;

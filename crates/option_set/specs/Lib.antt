@@ -1,6 +1,5 @@
 pub mod Layers
 pub mod Stack
-pub mod Named
 pub mod Defined
 pub mod Implied
 pub mod Refused

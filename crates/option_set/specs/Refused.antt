@@ -13,7 +13,7 @@ use Rattle.option_set.specs.declared.defining.Defining.{Defining}
 use Rattle.option_set.specs.declared.group.Kind.{Kind}
 use Rattle.option_set.specs.declared.group.Kind.TheVariants.{Single, Radio, Multi}
 use Rattle.bulk_base.specs.Order.{in_order}
-use Rattle.option_set.specs.Named.{is_option_name}
+use Rattle.bulk_base.specs.Names.{is_option_name}
 use Rattle.port_vars.specs.ValueWords.{words_in}
 use Rattle.option_set.specs.Defined.{defining_words}
 use Rattle.option_set.specs.Implied.{implied_by}

@@ -10,7 +10,6 @@ mod implied;
 mod layers;
 mod listed;
 mod listing;
-mod name;
 mod prevented;
 mod read;
 mod refusal;

@@ -10,9 +10,9 @@ use crate::defining::Defining;
 use crate::fault::OptionError;
 use crate::listed::Listed;
 use crate::listing::defining_words;
-use crate::name::is_option_name;
 use crate::read::{words_at, words_behind};
 use bulk_base::{NoMemory, Text, Texts, add_copies};
+use port_name::is_option_name;
 use port_vars::Vars;
 use std::alloc::Global;
 

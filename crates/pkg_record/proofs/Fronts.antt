@@ -9,7 +9,9 @@ use Rattle.std.proofs.lemmas.List.Sums.{position_or_len_is, fails_before_first, 
 use Rattle.bulk_base.specs.declared.file.FileItem.{FileItem}
 use Rattle.pkg_record.specs.declared.fault.Fault.{Fault}
 use Rattle.pkg_record.specs.declared.fault.Fault.TheVariants.{Short, Misfit}
-use Rattle.pkg_record.specs.Forms.{is_mark, is_origin, is_package_name}
+use Rattle.bulk_base.specs.Marks.{is_mark}
+use Rattle.port_name.specs.Forms.{is_origin}
+use Rattle.port_name.specs.PackageForm.{is_package_name}
 use Rattle.pkg_record.specs.Said.{passing, word_behind, flavor_said, count_behind, option_said, depend_said, file_said}
 use Rattle.pkg_record.specs.Reading.{◌>>=◌, line_at, fitting, said_at, piece_at, next_option, option_at, next_depend, depend_at, next_file, file_at, items_at, listed_at, unsigned_at}
 use Rattle.pkg_record.proofs.Taken.{bind_ok, ok_is, given_ok, chosen_ok, below, fits}

@@ -1,4 +1,3 @@
-pub mod Places
 pub mod Numerals
 pub mod Names
 pub mod Lists

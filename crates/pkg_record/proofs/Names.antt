@@ -8,10 +8,14 @@ use Rattle.std.proofs.lemmas.Bool.Decides.{nat_tests}
 use Rattle.std.proofs.lemmas.List.{length-drop, take-append-drop, drop_more}
 use Rattle.std.proofs.lemmas.List.Folds.{list_all-append}
 use Rattle.std.proofs.lemmas.List.Sums.{split_at_first, passes_at_first}
-use Rattle.bulk_base.specs.Names.{is_between, is_digit, is_lower, is_alphanumeric, is_made_of, is_port_byte, is_port_name, is_flavor, is_version, is_shown_number, is_option_name, IsOrigin, IsNode, IsPackageName}
+use Rattle.bulk_base.specs.Names.{is_between, is_digit, is_lower, is_alphanumeric, is_made_of, is_port_byte, is_port_name, is_flavor, is_version, is_shown_number, is_option_name, IsOrigin, IsNode, IsPackageName, node_of}
+use Rattle.port_name.proofs.Origins.{IsNode-from_test, test-from_IsOrigin}
 use Rattle.bulk_base.specs.Text.{is_text, is_text_byte}
 use Rattle.bulk_base.proofs.TextTests.{is_text-plain}
-use Rattle.pkg_record.specs.Forms.{is_mark, front, back, is_origin, is_node, is_revised, is_full_version, is_parted_at, some_below, is_package_name, is_hex_byte, is_digest}
+use Rattle.bulk_base.specs.Marks.{is_mark, front, back}
+use Rattle.port_name.specs.Forms.{is_origin, is_node}
+use Rattle.port_name.specs.PackageForm.{is_revised, is_full_version, is_parted_at, some_below, is_package_name}
+use Rattle.pkg_record.specs.Forms.{is_hex_byte, is_digest}
 
 -- a byte that is neither blank nor the end of a line
 abbrev pub is_visible : ℕ → Bool
@@ -122,27 +126,17 @@ origin_plain text h =
     plain_parted 47 text refl b.0 (port_name (front 47 text) parts.0).1 b.1
 
 pub node_form : (text : List ℕ) → is_node text ≡ true → IsNode text
-node_form text h = elim (either (is_origin text) (is_origin (front 64 text) && is_flavor (back 64 text)) h) [
-  | inl o ↦ record { origin = text; flavor = None; origin_form = origin_form text o; flavor_form = tt; spelled = refl }
-  | inr f ↦
-      let parts = and_parts (is_origin (front 64 text)) (is_flavor (back 64 text)) f in
-      record {
-        origin = front 64 text;
-        flavor = Some (back 64 text);
-        origin_form = origin_form (front 64 text) parts.0;
-        flavor_form = parts.1;
-        spelled = parted 64 text (flavor_name (back 64 text) parts.1).0;
-      }
-]
+node_form text h = IsNode-from_test text h
+
+origin_plain_by : (text : List ℕ) → IsOrigin text → is_plain text ≡ true
+origin_plain_by text o = origin_plain text (test-from_IsOrigin text o)
+
+named_plain : (origin : List ℕ) (flavor : Option (List ℕ)) → IsOrigin origin → IfSome flavor (λ f. IsTrue (is_flavor f)) → is_plain (node_of origin flavor) ≡ true
+named_plain origin None o h = origin_plain_by origin o
+named_plain origin (Some flavor) o h = plain_joined origin flavor 64 refl (origin_plain_by origin o) (flavor_name flavor h).1
 
 pub node_plain : (text : List ℕ) → is_node text ≡ true → is_plain text ≡ true
-node_plain text h = elim (either (is_origin text) (is_origin (front 64 text) && is_flavor (back 64 text)) h) [
-  | inl o ↦ origin_plain text o
-  | inr f ↦
-      let parts = and_parts (is_origin (front 64 text)) (is_flavor (back 64 text)) f in
-      let b = flavor_name (back 64 text) parts.1 in
-      plain_parted 64 text refl b.0 (origin_plain (front 64 text) parts.0) b.1
-]
+node_plain text h = let n = node_form text h in ap is_plain n.spelled ∙ named_plain n.origin n.flavor n.origin_form n.flavor_form
 
 -- a part behind a mark, where there is one
 abbrev pub tail_of : ℕ → Option (List ℕ) → List ℕ

@@ -9,8 +9,11 @@ use Rattle.std.proofs.lemmas.List.Sums.{position_or_len_is, AllPass-from_list_al
 use Rattle.std.proofs.Math.Seq.{get_or-append_seam, take-append_seam}
 use Rattle.std.proofs.lemmas.Bool.{and_from}
 use Rattle.bulk_base.specs.Names.{is_digit, is_alphanumeric, is_made_of, is_port_byte, is_port_name, is_flavor, is_version, is_shown_number, IsOrigin, IsNode, IsPackageName, node_of}
-use Rattle.pkg_record.specs.Forms.{is_mark, front, back, is_origin, is_node, is_revised, is_full_version, is_parted_at, some_below, is_package_name}
-use Rattle.pkg_record.proofs.Places.{some_below-at}
+use Rattle.bulk_base.specs.Marks.{is_mark, front, back}
+use Rattle.port_name.specs.Forms.{is_origin, is_node}
+use Rattle.port_name.specs.PackageForm.{is_revised, is_full_version, is_parted_at, some_below, is_package_name}
+use Rattle.port_name.proofs.Parting.{some_below-at}
+use Rattle.port_name.proofs.Origins.{test-from_IsNode}
 use Rattle.pkg_record.proofs.Names.{list_all-weaken, made_of, tail_of}
 
 left_true : (a b : Bool) → a ≡ true → (a || b) ≡ true
@@ -86,13 +89,8 @@ origin_at text o =
     let b : Lacks 64 o.port = list_all-weaken is_port_byte (differs 64) port_at o.port (port_bytes o.port o.port_form) in
     ap (list_all (differs 64)) o.spelled ∙ lacks_joined 64 o.category (47 ∷ o.port) a b
 
-node_is : (origin : List ℕ) (flavor : Option (List ℕ)) → IsOrigin origin → IfSome flavor (λ f. IsTrue (is_flavor f)) → is_node (node_of origin flavor) ≡ true
-node_is origin None o h = left_true _ _ (origin_again origin o)
-node_is origin (Some flavor) o h =
-    right_true _ _ (and_from _ _ (ap is_origin (front_again 64 origin flavor (origin_at origin o)) ∙ origin_again origin o) (ap is_flavor (back_again 64 origin flavor (origin_at origin o)) ∙ h))
-
 pub node_again : (text : List ℕ) → IsNode text → is_node text ≡ true
-node_again text n = ap is_node n.spelled ∙ node_is n.origin n.flavor n.origin_form n.flavor_form
+node_again text n = test-from_IsNode text n
 
 version_bytes : (version : List ℕ) → is_version version ≡ true → list_all (λ b. is_alphanumeric b || (b == 46) || (b == 43)) version ≡ true
 version_bytes version h = (made_of (λ b. is_alphanumeric b || (b == 46) || (b == 43)) 1 64 version h).2

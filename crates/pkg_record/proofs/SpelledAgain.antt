@@ -32,7 +32,9 @@ use Rattle.pkg_record.specs.declared.fault.Fault.{Fault}
 use Rattle.pkg_record.specs.declared.fault.Fault.TheVariants.{Misfit}
 use Rattle.pkg_record.specs.declared.fault.RecordError.{RecordError}
 use Rattle.pkg_record.specs.declared.fault.RecordError.TheVariants as records
-use Rattle.pkg_record.specs.Forms.{is_origin, is_package_name, is_digest, is_hex_byte}
+use Rattle.port_name.specs.Forms.{is_origin}
+use Rattle.port_name.specs.PackageForm.{is_package_name}
+use Rattle.pkg_record.specs.Forms.{is_digest, is_hex_byte}
 use Rattle.pkg_record.specs.Said.{passing, word_behind, flavor_said, count_behind, option_said, depend_said, file_said}
 use Rattle.pkg_record.specs.Reading.{◌>>=◌, said_at, piece_at, last_of, option_follows, next_option, option_at, depend_follows, next_depend, depend_at, path_follows, is_record_path, is_next_path, next_file, file_at, items_at, listed_at, unsigned_at, signed, signed_at, digest_of, judged, record_of}
 use Rattle.pkg_record.specs.Laws.{HasRecord}

@@ -21,7 +21,9 @@ use Rattle.bulk_model.specs.declared.depend.DepKind.TheVariants.{Pkg, Fetch, Ext
 use Rattle.bulk_model.specs.Spelling.{line, kind_word, flavor_word, switch_word, option_line, depend_line}
 use Rattle.pkg_record.specs.declared.fault.Fault.{Fault}
 use Rattle.pkg_record.specs.declared.fault.Fault.TheVariants.{Short, Misfit}
-use Rattle.pkg_record.specs.Forms.{is_mark, front, back, is_node, is_package_name, some_below, is_parted_at}
+use Rattle.bulk_base.specs.Marks.{is_mark, front, back}
+use Rattle.port_name.specs.Forms.{is_node}
+use Rattle.port_name.specs.PackageForm.{is_package_name, some_below, is_parted_at}
 use Rattle.pkg_record.specs.Said.{behind, passing, word_behind, flavor_of, flavor_said, is_numeral, count_of, count_behind, switch_of, switch, named_switch, switch_in, option_said, kind_of, depend, named_depend, depend_in, depend_said, file_in, file_said}
 use Rattle.pkg_record.specs.Reading.{◌>>=◌, line_at, fitting, said_at, piece_at}
 use Rattle.pkg_record.proofs.Names.{parted, some_below-place}

@@ -19,7 +19,10 @@ use Rattle.pkg_record.specs.declared.fault.ReadError.{ReadError}
 use Rattle.pkg_record.specs.declared.fault.ReadError.TheVariants as errors
 use Rattle.pkg_record.specs.declared.fault.RecordError.{RecordError}
 use Rattle.pkg_record.specs.declared.fault.RecordError.TheVariants as records
-use Rattle.pkg_record.specs.Forms.{is_mark, front, back, is_origin, is_package_name, is_digest}
+use Rattle.bulk_base.specs.Marks.{is_mark, front, back}
+use Rattle.port_name.specs.Forms.{is_origin}
+use Rattle.port_name.specs.PackageForm.{is_package_name}
+use Rattle.pkg_record.specs.Forms.{is_digest}
 use Rattle.pkg_record.specs.Said.{passing, word_behind, flavor_said, count_behind, option_said, depend_said, file_said}
 
 infixl 10 ◌>>=◌

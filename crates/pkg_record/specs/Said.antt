@@ -9,7 +9,9 @@ use Rattle.bulk_base.specs.declared.file.Switch.{Switch}
 use Rattle.bulk_model.specs.declared.depend.Depend.{Depend}
 use Rattle.bulk_model.specs.declared.depend.DepKind.{DepKind}
 use Rattle.bulk_model.specs.declared.depend.DepKind.TheVariants.{Pkg, Fetch, Extract, Patch, Build, Lib, Run}
-use Rattle.pkg_record.specs.Forms.{front, back, is_node, is_package_name}
+use Rattle.bulk_base.specs.Marks.{front, back}
+use Rattle.port_name.specs.Forms.{is_node}
+use Rattle.port_name.specs.PackageForm.{is_package_name}
 
 -- what follows a heading
 abbrev pub behind : List ℕ → List ℕ → Option (List ℕ)

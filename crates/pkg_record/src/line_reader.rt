@@ -4,21 +4,21 @@ ghost use Rattle.std.specs.Option.{option_copied};
 ghost use Rattle.bulk_base.specs.Names.{IsOrigin, IsPackageName};
 ghost use Rattle.bulk_base.specs.Names as names;
 ghost use Rattle.pkg_record.specs.Reading.{Gives, said_at, piece_at};
-ghost use Rattle.pkg_record.specs.Forms;
 ghost use Rattle.pkg_record.specs.Said as said;
 
 use crate::fault::{Fault, ReadError, misfit};
-use crate::forms::{cut, is_digest, is_origin, is_package_name, place_of};
+use crate::forms::is_digest;
 use crate::words::{behind, count_of, flavor_of};
-use bulk_base::{NoMemory, Text};
+use bulk_base::{NoMemory, Text, cut, place_or_end};
+use port_name::{is_origin, is_package_name};
 use std::alloc::Global;
 
 /// The text of the first line and what follows the line.
 pub(crate) fn line_at(bytes: &[u8]) -> Result<(&[u8], &[u8]), ReadError>
     ensures { Gives (λ x. (x.0.now, x.1.now)) result (Rattle.pkg_record.specs.Reading.line_at bytes.now) }
 {
-    if place_of(b'\n', bytes) < bytes.len() {
-        Ok(cut(b'\n', bytes))
+    if place_or_end(bytes, b'\n') < bytes.len() {
+        Ok(cut(bytes, b'\n'))
     } else {
         Err(ReadError::Found(Fault::Short))
     }
@@ -68,7 +68,7 @@ pub(crate) fn piece(size: u64, bytes: &[u8]) -> Result<(&[u8], &[u8]), ReadError
 /// The line with a package's name.
 #[tactic(auto, unfolding(crate::specs::Reading::said_at))]
 pub(crate) fn name_line(alloc: Global, bytes: &[u8]) -> Result<(Text, &[u8]), ReadError>
-    ensures read { Gives (λ x. (x.0, x.1.now)) result (said_at (said.word_behind (codes "name ") Rattle.pkg_record.specs.Forms.is_package_name) bytes.now) }
+    ensures read { Gives (λ x. (x.0, x.1.now)) result (said_at (said.word_behind (codes "name ") Rattle.port_name.specs.PackageForm.is_package_name) bytes.now) }
     ensures form { IfOk result (λ x. IsPackageName x.0) }
 {
     let (text, after) = line_at(bytes)?;
@@ -84,7 +84,7 @@ pub(crate) fn name_line(alloc: Global, bytes: &[u8]) -> Result<(Text, &[u8]), Re
 /// The line with a port's origin.
 #[tactic(auto, unfolding(crate::specs::Reading::said_at))]
 pub(crate) fn origin_line(alloc: Global, bytes: &[u8]) -> Result<(Text, &[u8]), ReadError>
-    ensures read { Gives (λ x. (x.0, x.1.now)) result (said_at (said.word_behind (codes "origin ") Rattle.pkg_record.specs.Forms.is_origin) bytes.now) }
+    ensures read { Gives (λ x. (x.0, x.1.now)) result (said_at (said.word_behind (codes "origin ") Rattle.port_name.specs.Forms.is_origin) bytes.now) }
     ensures form { IfOk result (λ x. IsOrigin x.0) }
 {
     let (text, after) = line_at(bytes)?;

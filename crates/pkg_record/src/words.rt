@@ -2,11 +2,13 @@
 ghost use Rattle.std.specs.Prelude.{◌≡◌, codes, IsTrue, IfSome};
 ghost use Rattle.std.specs.Option.{option_map, option_copied};
 ghost use Rattle.bulk_base.specs.Names.{is_option_name};
-ghost use Rattle.pkg_record.specs.Forms;
+ghost use Rattle.port_name.specs.Forms as forms;
+ghost use Rattle.port_name.specs.PackageForm as package_form;
 ghost use Rattle.pkg_record.specs.Said as said;
 
-use crate::forms::{cut, is_flavor, is_node, is_option_name, is_package_name};
+use bulk_base::cut;
 use bulk_model::DepKind;
+use port_name::{is_flavor, is_node, is_option_name, is_package_name};
 use std::str;
 
 /// What follows a heading.
@@ -99,7 +101,7 @@ fn switch_in(words: &[u8]) -> Option<(&[u8], bool)>
     ensures read { option_map (λ x. said.switch x.0.now x.1) result ≡ said.switch_in words.now }
     ensures form { IfSome result (λ x. IsTrue (is_option_name x.0.now)) }
 {
-    let (name, word) = cut(b' ', words);
+    let (name, word) = cut(words, b' ');
     match switch_of(word) {
         Some(on) if is_option_name(name) => Some((name, on)),
         _ => None,
@@ -123,8 +125,8 @@ fn named_depend<'a>(
     kind: DepKind,
 ) -> Option<(DepKind, &'a [u8], &'a [u8])>
     ensures read { option_map (λ x. said.depend x.0 x.1.now x.2.now) result ≡ said.named_depend node.now name.now kind }
-    ensures node { IfSome result (λ x. IsTrue (Forms.is_node x.1.now)) }
-    ensures name { IfSome result (λ x. IsTrue (Forms.is_package_name x.2.now)) }
+    ensures node { IfSome result (λ x. IsTrue (forms.is_node x.1.now)) }
+    ensures name { IfSome result (λ x. IsTrue (package_form.is_package_name x.2.now)) }
 {
     if is_node(node) && is_package_name(name) {
         Some((kind, node, name))
@@ -136,11 +138,11 @@ fn named_depend<'a>(
 /// A dependency's kind, its node and the name of that node's package.
 fn depend_in(words: &[u8]) -> Option<(DepKind, &[u8], &[u8])>
     ensures read { option_map (λ x. said.depend x.0 x.1.now x.2.now) result ≡ said.depend_in words.now }
-    ensures node { IfSome result (λ x. IsTrue (Forms.is_node x.1.now)) }
-    ensures name { IfSome result (λ x. IsTrue (Forms.is_package_name x.2.now)) }
+    ensures node { IfSome result (λ x. IsTrue (forms.is_node x.1.now)) }
+    ensures name { IfSome result (λ x. IsTrue (package_form.is_package_name x.2.now)) }
 {
-    let (word, rest) = cut(b' ', words);
-    let (node, name) = cut(b' ', rest);
+    let (word, rest) = cut(words, b' ');
+    let (node, name) = cut(rest, b' ');
     match kind_of(word) {
         Some(kind) => named_depend(node, name, kind),
         None => None,
@@ -150,8 +152,8 @@ fn depend_in(words: &[u8]) -> Option<(DepKind, &[u8], &[u8])>
 /// What a dependency's line says.
 pub(crate) fn depend_said(text: &[u8]) -> Option<(DepKind, &[u8], &[u8])>
     ensures read { option_map (λ x. said.depend x.0 x.1.now x.2.now) result ≡ said.depend_said text.now }
-    ensures node { IfSome result (λ x. IsTrue (Forms.is_node x.1.now)) }
-    ensures name { IfSome result (λ x. IsTrue (Forms.is_package_name x.2.now)) }
+    ensures node { IfSome result (λ x. IsTrue (forms.is_node x.1.now)) }
+    ensures name { IfSome result (λ x. IsTrue (package_form.is_package_name x.2.now)) }
 {
     match behind(b"depend ", text) {
         Some(words) => depend_in(words),
@@ -166,7 +168,7 @@ pub(crate) fn file_said(text: &[u8]) -> Option<(u64, &[u8])>
     let Some(words) = behind(b"file ", text) else {
         return None;
     };
-    let (digits, path) = cut(b' ', words);
+    let (digits, path) = cut(words, b' ');
     match count_of(digits) {
         Some(size) => Some((size, path)),
         None => None,

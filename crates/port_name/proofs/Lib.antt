@@ -4,3 +4,4 @@ pub mod Plain
 pub mod Origins
 pub mod Sizes
 pub mod Spelled
+pub mod Parting

@@ -9,6 +9,10 @@ use Rattle.bulk_base.specs.Names.{is_made_of, is_port_byte, is_port_name, is_fla
 abbrev pub is_flavor_byte : ℕ → Bool
 is_flavor_byte b = is_lower b || is_digit b || (b == 95)
 
+-- what options' names are made of
+abbrev pub is_option_byte : ℕ → Bool
+is_option_byte b = is_alphanumeric b || (b == 95) || (b == 45)
+
 -- what versions are made of
 abbrev pub is_version_byte : ℕ → Bool
 is_version_byte b = is_alphanumeric b || (b == 46) || (b == 43)

@@ -1,3 +1,4 @@
 pub mod Forms
 pub mod Package
 pub mod Sets
+pub mod PackageForm

@@ -10,7 +10,7 @@ fn is_port_byte(byte: u8) -> bool
     byte.is_ascii_alphanumeric() || byte == b'_' || byte == b'-' || byte == b'.' || byte == b'+'
 }
 
-fn has_only_port_bytes(text: &[u8]) -> bool
+pub(crate) fn has_only_port_bytes(text: &[u8]) -> bool
     ensures { result ≡ list_all names.is_port_byte text.now }
 {
     text.iter().all(|b| is_port_byte(*b))
@@ -47,10 +47,29 @@ fn has_only_flavor_bytes(text: &[u8]) -> bool
 }
 
 /// Whether a text is a flavor's name: 1 to 32 lower-case letters, digits and `_`.
-pub(crate) fn is_flavor(text: &[u8]) -> bool
+pub fn is_flavor(text: &[u8]) -> bool
     ensures { result ≡ names.is_flavor text.now }
 {
     !text.is_empty() && text.len() <= 32 && has_only_flavor_bytes(text)
+}
+
+fn is_option_byte(byte: u8) -> bool
+    ensures { result ≡ forms.is_option_byte byte }
+{
+    byte.is_ascii_alphanumeric() || byte == b'_' || byte == b'-'
+}
+
+fn has_only_option_bytes(text: &[u8]) -> bool
+    ensures { result ≡ list_all forms.is_option_byte text.now }
+{
+    text.iter().all(|b| is_option_byte(*b))
+}
+
+/// Whether a text is an option's name: 1 to 64 letters, digits, `_` and `-`.
+pub fn is_option_name(text: &[u8]) -> bool
+    ensures { result ≡ names.is_option_name text.now }
+{
+    !text.is_empty() && text.len() <= 64 && has_only_option_bytes(text)
 }
 
 fn is_version_byte(byte: u8) -> bool
@@ -84,7 +103,7 @@ fn has_only_digits(text: &[u8]) -> bool
     text.iter().all(|b| is_digit(*b))
 }
 
-fn is_shown_number(text: &[u8]) -> bool
+pub(crate) fn is_shown_number(text: &[u8]) -> bool
     ensures { result ≡ names.is_shown_number text.now }
 {
     !text.is_empty() && text.len() <= 9 && has_only_digits(text) && text[0] != b'0'

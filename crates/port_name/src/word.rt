@@ -20,7 +20,8 @@ fn has_origin_form(word: &[u8]) -> bool
     slash < word.len() && is_port_name(&word[..slash]) && is_port_name(&word[slash + 1..])
 }
 
-fn is_origin(word: &[u8]) -> bool
+/// Whether a word is an origin: a category and a port with `/` between. One pass over the word; takes no memory.
+pub fn is_origin(word: &[u8]) -> bool
     ensures test { result ≡ forms.is_origin word.now }
     ensures form { IsTrue result ↔ IsOrigin word.now }
 {

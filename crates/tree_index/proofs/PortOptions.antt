@@ -13,7 +13,7 @@ use Rattle.port_vars.specs.Variables.{Vars}
 use Rattle.port_desc.proofs.Refused.{same_ok, no_err}
 use Rattle.option_set.specs.declared.fault.OptionError.{OptionError}
 use Rattle.option_set.specs.declared.layers.Layers.{Layers}
-use Rattle.option_set.specs.Named.{is_option_name}
+use Rattle.bulk_base.specs.Names.{is_option_name}
 use Rattle.option_set.specs.Defined.{defining, defining_words, option_words, options_of, groups_in, words_of_groups, members_of}
 use Rattle.port_vars.specs.ValueWords.{words_in}
 use Rattle.option_set.specs.Implied.{on_in}

@@ -1,6 +1,6 @@
 use Rattle.std.proofs.Common.{◌≡◌, ◌∙◌, ap, ap₂, sym, Some}
 use Rattle.std.specs.Option.{option_and_then}
-use Rattle.pkg_record.specs.Forms.{front, back}
+use Rattle.bulk_base.specs.Marks.{front, back}
 use Rattle.pkg_record.specs.Said.{kind_of, named_depend}
 use Rattle.pkg_record.proofs.words.depend_in.Goals as goal
 

@@ -1,7 +1,7 @@
 use Rattle.std.proofs.Common.{◌∙◌, sym, length}
-use Rattle.pkg_record.specs.Forms.{is_parted_at}
-use Rattle.pkg_record.proofs.Places.{some_below-at, some_below-next}
-use Rattle.pkg_record.proofs.forms.has_parting.Goals as goal
+use Rattle.port_name.specs.PackageForm.{is_parted_at}
+use Rattle.port_name.proofs.Parting.{some_below-at, some_below-next}
+use Rattle.port_name.proofs.package_form.has_parting.Goals as goal
 
 pub returns-then-is_parted_at : goal.returns-then-is_parted_at
 returns-then-is_parted_at c =
