@@ -21,6 +21,7 @@ const NOBODY: u64 = u64::MAX;
 
 /// A gate that holds the first builder that comes until a second one comes, for a number of turns at most, so that a
 /// test sees two builders at work at once. No contract tells what it saw: it is for tests.
+#[derive(Drop)]
 pub struct MeetGate {
     limit: u64,
     first: AtomicU64,

@@ -3,6 +3,7 @@
 #![tactic(auto)]
 
 mod endings;
+mod gates;
 mod memory;
 mod roomless;
 mod rooms;
@@ -26,6 +27,7 @@ fn answer(alloc: Global, case: &[&str], out: &mut Vec<u8>) -> Result<(), CaseErr
         ["store", items, fails, calls] => stores::answer_store(alloc, items, fails, calls, out),
         ["sink", fails, pieces] => stores::answer_sink(alloc, fails, pieces, out),
         ["room", fails, calls] => rooms::answer_room(alloc, fails, calls, out),
+        ["gate", limit, builders] => gates::answer_gate(limit, builders, out),
         _ => Err(CaseError::Unfit),
     }
 }
@@ -40,12 +42,11 @@ fn answer_line<W: Threads + Wait + Sync>(
         return line.to_string(alloc);
     }
     let mut out = Vec::new(alloc);
-    let answered = match line.strip_prefix("roomless|") {
-        Some(words) => roomless::answer_roomless(rt, alloc, words, &mut out),
-        None => {
-            let fields: Vec<&str> = line.split('|').collect(alloc)?;
-            answer(alloc, fields.as_slice(), &mut out)
-        }
+    let fields: Vec<&str> = line.split('|').collect(alloc)?;
+    let answered = match fields.as_slice() {
+        ["roomless", words] => roomless::answer_roomless(rt, alloc, words, &mut out),
+        ["meeting", limit] => gates::answer_meeting(rt, limit, &mut out),
+        case => answer(alloc, case, &mut out),
     };
     shown_answer(alloc, answered, out.as_slice())
 }
