@@ -3,7 +3,10 @@ ghost use Rattle.std.specs.Prelude.{◌≡◌, codes, bytes_eq, length, IfOk, If
 ghost use Rattle.std.specs.Option.{option_copied};
 ghost use Rattle.bulk_base.specs.Names.{IsOrigin, IsPackageName};
 ghost use Rattle.bulk_base.specs.Names as names;
+ghost use Rattle.pkg_record.specs.Forms.{is_digest};
 ghost use Rattle.pkg_record.specs.Reading.{Gives, said_at, piece_at};
+ghost use Rattle.port_name.specs.Forms.{is_origin};
+ghost use Rattle.port_name.specs.PackageForm.{is_package_name};
 ghost use Rattle.pkg_record.specs.Said as said;
 
 use crate::fault::{Fault, ReadError, misfit};
@@ -68,7 +71,7 @@ pub(crate) fn piece(size: u64, bytes: &[u8]) -> Result<(&[u8], &[u8]), ReadError
 /// The line with a package's name.
 #[tactic(auto, unfolding(crate::specs::Reading::said_at))]
 pub(crate) fn name_line(alloc: Global, bytes: &[u8]) -> Result<(Text, &[u8]), ReadError>
-    ensures read { Gives (λ x. (x.0, x.1.now)) result (said_at (said.word_behind (codes "name ") Rattle.port_name.specs.PackageForm.is_package_name) bytes.now) }
+    ensures read { Gives (λ x. (x.0, x.1.now)) result (said_at (said.word_behind (codes "name ") is_package_name) bytes.now) }
     ensures form { IfOk result (λ x. IsPackageName x.0) }
 {
     let (text, after) = line_at(bytes)?;
@@ -84,7 +87,7 @@ pub(crate) fn name_line(alloc: Global, bytes: &[u8]) -> Result<(Text, &[u8]), Re
 /// The line with a port's origin.
 #[tactic(auto, unfolding(crate::specs::Reading::said_at))]
 pub(crate) fn origin_line(alloc: Global, bytes: &[u8]) -> Result<(Text, &[u8]), ReadError>
-    ensures read { Gives (λ x. (x.0, x.1.now)) result (said_at (said.word_behind (codes "origin ") Rattle.port_name.specs.Forms.is_origin) bytes.now) }
+    ensures read { Gives (λ x. (x.0, x.1.now)) result (said_at (said.word_behind (codes "origin ") is_origin) bytes.now) }
     ensures form { IfOk result (λ x. IsOrigin x.0) }
 {
     let (text, after) = line_at(bytes)?;
@@ -100,7 +103,7 @@ pub(crate) fn origin_line(alloc: Global, bytes: &[u8]) -> Result<(Text, &[u8]), 
 /// The line with the digest of all bytes before it.
 #[tactic(auto, unfolding(crate::specs::Reading::said_at))]
 pub(crate) fn digest_line(alloc: Global, bytes: &[u8]) -> Result<(Text, &[u8]), ReadError>
-    ensures { Gives (λ x. (x.0, x.1.now)) result (said_at (said.word_behind (codes "sha256 ") Rattle.pkg_record.specs.Forms.is_digest) bytes.now) }
+    ensures { Gives (λ x. (x.0, x.1.now)) result (said_at (said.word_behind (codes "sha256 ") is_digest) bytes.now) }
 {
     let (text, after) = line_at(bytes)?;
     let Some(digest) = behind(b"sha256 ", text) else {
