@@ -8,8 +8,6 @@ mod installed;
 mod law;
 mod order;
 mod spread;
-#[cfg(test)]
-mod tests;
 mod turned;
 
 pub use graph::Graph;

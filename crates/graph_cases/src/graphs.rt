@@ -1,5 +1,4 @@
 // Orders, chains of dependents, what is reached, and dependents.
-ghost use Rattle.std.specs.Prelude.{IsTrue, IfSome, IsSome};
 
 use crate::making::{graph_of, lists_of};
 use bulk_base::Sequence;

@@ -26,6 +26,7 @@ fn answer(alloc: Global, case: &[&str], out: &mut Vec<u8>) -> Result<(), CaseErr
         ["installs for a fan", first, second, node] => {
             threes::answer_fan(alloc, [first, second, node], out)
         }
+        ["collected", first, second] => threes::answer_collected(alloc, first, second, out),
         ["cause", "of a port that runs an ignored one"] => plans::answer_cause(alloc, out),
         _ => Err(CaseError::Unfit),
     }

@@ -1,5 +1,5 @@
 // Graphs from the edge lists that a field writes.
-ghost use Rattle.std.specs.Prelude.{◌<◌, ◌^◌, ◌×◌, length, IsTrue};
+ghost use Rattle.std.specs.Prelude.{◌<◌, length, IsTrue};
 ghost use Rattle.std.specs.List.{All};
 ghost use Rattle.dep_graph.specs.Graphs.{IsGraph};
 

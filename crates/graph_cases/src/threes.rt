@@ -7,8 +7,8 @@ use crate::graphs::push_numbers;
 use crate::making::kind_named;
 use bulk_base::{NoMemory, Sequence, Text};
 use bulk_model::{DepKind, Edge, EdgeLists, Edges, Job, Jobs, MaybeTexts, Plan, Steps};
-use case_text::{CaseError, number_of};
-use dep_graph::installs;
+use case_text::{CaseError, number_of, push_str};
+use dep_graph::{Collector, installs};
 use std::alloc::Global;
 
 /// A port with nothing to do.
@@ -135,6 +135,34 @@ fn push_installed(
     }
     let nodes = installs(alloc, plan, node as u32)?;
     Ok(push_numbers(alloc, nodes.as_slice(), out)?)
+}
+
+/// Puts at the end what one collector collects for each node in turn, and then for the last and the first again.
+fn push_collected(alloc: Global, plan: &Plan, out: &mut Vec<u8>) -> Result<(), CaseError>
+    requires { length plan.now.jobs ≡ 3 }
+{
+    let mut collector = Collector::new(alloc, plan)?;
+    for node in [0, 1, 2, 2, 0] {
+        let nodes = collector.collect(alloc, plan, node)?;
+        push_numbers(alloc, nodes.as_slice(), out)?;
+        push_str(out, ";")?;
+    }
+    Ok(())
+}
+
+/// What one collector collects for the nodes of the chain of three, and of the fan of three.
+pub(crate) fn answer_collected(
+    alloc: Global,
+    first: &str,
+    second: &str,
+    out: &mut Vec<u8>,
+) -> Result<(), CaseError> {
+    let (first, second) = (kind_named(first)?, kind_named(second)?);
+    let chain = chain_of_three(alloc, first, second)?;
+    push_collected(alloc, &chain, out)?;
+    push_str(out, " fan")?;
+    let fan = fan_of_three(alloc, first, second)?;
+    push_collected(alloc, &fan, out)
 }
 
 /// What is installed for a node of three, the second of which depends on the first by a kind, and the third on the second by another.

@@ -4,8 +4,6 @@
 mod law;
 mod reported;
 mod staying;
-#[cfg(test)]
-mod tests;
 mod walking;
 
 pub use law::an_order_or_a_loop;

@@ -9,8 +9,6 @@ mod nodes;
 mod notice_list;
 mod notices;
 mod selection;
-#[cfg(test)]
-mod tests;
 mod word;
 
 pub use command::wanted;

@@ -11,8 +11,6 @@ mod flavor_list;
 mod naming;
 mod reasons;
 mod seen;
-#[cfg(test)]
-mod tests;
 mod values;
 
 pub use description::{Desc, describe};

@@ -2,6 +2,7 @@
 //! bars, and an answer a line. A line `tree` sets the tree that the lines below it speak of.
 #![tactic(auto)]
 
+mod depending;
 mod indexes;
 mod nodes;
 mod refusals;
@@ -16,6 +17,7 @@ fn answer(alloc: Global, tree: &str, case: &[&str], out: &mut Vec<u8>) -> Result
         ["tree", files] => indexes::answer_index(alloc, files, "", false, out),
         ["tried"] => indexes::answer_index(alloc, tree, "", true, out),
         ["failing", fails] => indexes::answer_index(alloc, tree, fails, false, out),
+        ["depends", node] => depending::answer_depends(alloc, tree, node, out),
         ["there", names] => indexes::answer_there(alloc, tree, names, out),
         ["wanted", list, words, flags] => {
             wanting::answer_wanted(alloc, tree, [list, words, flags], out)

@@ -4,7 +4,8 @@ use case_text::{push_str, push_text};
 use std::alloc::AllocError;
 use tree_index::{At, NodeInfo, Target};
 
-fn kind_name(kind: DepKind) -> &'static str {
+/// The name of a kind, between blanks.
+pub(crate) fn kind_name(kind: DepKind) -> &'static str {
     match kind {
         DepKind::Pkg => " pkg ",
         DepKind::Fetch => " fetch ",

@@ -17,8 +17,6 @@ mod port_node;
 mod port_reading;
 mod ports_index;
 mod resolving;
-#[cfg(test)]
-mod tests;
 mod tree_reading;
 mod twins;
 mod var_file;

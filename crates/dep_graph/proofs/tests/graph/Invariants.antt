@@ -1,5 +1,0 @@
-use Rattle.dep_graph.specs.Graphs.{IsWithin}
-use Rattle.dep_graph.proofs.tests.graph.Given as goal
-
-abbrev pub invariant-loop-part : goal.invariant-loop-part
-invariant-loop-part l = IsWithin l.count l.lists.items
