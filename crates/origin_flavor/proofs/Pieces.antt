@@ -1,5 +1,5 @@
 -- What stands before the first byte of a kind in a text is a text.
-use Rattle.std.proofs.Common.{◌≡◌, ℕ, ◌<◌, Bool, true, List, [], ◌∷◌, ◌++◌, length, get_or, take, arith, ap, sym, ◌∙◌, inl, inr, subst, refl}
+use Rattle.std.proofs.Common.{◌≡◌, ℕ, ◌<◌, Bool, true, List, length, get_or, take, arith, ap, sym, ◌∙◌, inl, inr, subst}
 use Rattle.std.specs.Prelude.{◌&&◌}
 use Rattle.std.specs.List.{position_or_len, before_first}
 use Rattle.std.specs.Str.{is_utf8}
@@ -9,7 +9,7 @@ use Rattle.std.proofs.lemmas.Bool.{cases_lt, eqb-true, and_parts}
 use Rattle.std.proofs.lemmas.Str.{is_utf8-from_IsUtf8, IsUtf8-from_is_utf8}
 use Rattle.bulk_base.specs.Text.{IsText, is_text, has_text_bytes}
 use Rattle.port_name.specs.Forms.{is_at}
-use Rattle.port_vars.proofs.TextParts.{IsText-before, IsText-append, IsText-byte}
+use Rattle.port_vars.proofs.TextParts.{IsText-before}
 use Rattle.port_vars.proofs.Trimmed.{IsText-trim}
 use Rattle.origin_flavor.specs.ListFile.{is_hash, word_of}
 

@@ -1,5 +1,5 @@
 -- What holds of every node of a ports tree, of the nodes of one port and of a whole tree, and of every index.
-use Rattle.std.specs.Prelude.{◌≡◌, ℕ, Bool, true, false, ◌&&◌, ◌<◌, ◌≤◌, ◌^◌, List, length, map, filter, Result, IsTrue, IfSome, bytes_eq}
+use Rattle.std.specs.Prelude.{◌≡◌, ℕ, Bool, true, false, ◌&&◌, ◌<◌, ◌^◌, List, length, map, filter, Result, IsTrue, IfSome, bytes_eq}
 use Rattle.std.specs.List.{AllByRecursion, IsDistinct}
 use Rattle.bulk_base.specs.Names.{IsPackageName, is_port_name, is_flavor, node_of}
 use Rattle.outside.specs.Contents.{IsAscending}

@@ -47,7 +47,7 @@ loop-category-preserved g c =
     let found : List NodeInfo = c.in_ok-read_category.field-0 in
     let now : List NodeInfo = c.append.new.self.items in
     let within : at < length categories = c.loop-category-test.true in
-    let more : now ≡ nodes ++ found = c.in_ok-append.ensures.items ∙ ap (λ ys. nodes ++ ys) c.into_vec-found.ensures in
+    let more : now ≡ nodes ++ found = ◌∙◌ {b = nodes ++ c.into_vec-found.result.items} c.in_ok-append.ensures.items (ap (λ ys. nodes ++ ys) c.into_vec-found.ensures) in
     record {
       told = λ t.
           let read : nodes_of_category make c.args.try_broken content category ≡ Ok found =

@@ -55,7 +55,7 @@ loop-port-preserved g c =
     let now : List NodeInfo = c.append.new.self.items in
     let within : at < length ports = c.loop-port-test.true in
     let place : origin ≡ (let o : Origin = record { category = category; port = port } in o) = (λ i. record { category = c.in_ok-origin.ensures.category i; port = c.in_ok-origin.ensures.port i }) in
-    let more : now ≡ nodes ++ found = c.in_ok-append.ensures.items ∙ ap (λ ys. nodes ++ ys) c.into_vec-found.ensures in
+    let more : now ≡ nodes ++ found = ◌∙◌ {b = nodes ++ c.into_vec-found.result.items} c.in_ok-append.ensures.items (ap (λ ys. nodes ++ ys) c.into_vec-found.ensures) in
     record {
       told = λ t.
           let read : port_nodes make c.args.try_broken content (record { category = category; port = port }) ≡ Ok found =
