@@ -1,2 +1,4 @@
 pub mod PlanEdges
 mod Setbacks
+pub mod Marks
+pub mod FileNames

@@ -1,6 +1,8 @@
 -- What kept packages and results have to do with their plan.
-use Rattle.std.specs.Prelude.{◌≡◌, ℕ, Bool, true, false, not, ◌&&◌, ◌||◌, ◌<◌, List, length, slice_index_or, IfSome, IsTrue}
+use Rattle.std.specs.Prelude.{◌≡◌, ℕ, Bool, true, false, not, ◌&&◌, ◌||◌, ◌<◌, List, length, slice_index_or, Option, Some, None, IfSome, IsTrue}
 use Rattle.std.specs.List.{list_all, list_any}
+use Rattle.bulk_model.specs.declared.outcome.Outcome.{Outcome}
+use Rattle.bulk_model.specs.declared.outcome.Outcome.TheVariants.{Built as MadePackage, Failed as FailedBuild}
 use Rattle.bulk_model.specs.declared.plan.Kept.{Kept as KeptPackages}
 use Rattle.bulk_model.specs.declared.results.Status.{Status}
 use Rattle.bulk_model.specs.declared.results.Status.TheVariants.{Kept, Built, Failed, Ignored, Skipped}
@@ -45,3 +47,21 @@ pub record FitsResults (plan : PlanView) (statuses : List Status) : Type 0 where
   pub places : length statuses ≡ length plan.jobs
   pub ignored : IsTrue (list_all (λ n. not (is_ignored_status (status_in statuses n)) || is_ignored plan n) (nodes plan))
   pub skipped : IsTrue (list_all (λ n. not (is_skipped (status_in statuses n)) || list_any (λ d. not (is_good (status_in statuses d))) (depends plan n)) (nodes plan))
+
+abbrev pub outcome_at : List (Option Outcome) → ℕ → Option Outcome
+outcome_at outcomes n = slice_index_or outcomes n None
+
+abbrev pub has_built : Option Outcome → Bool
+has_built None = false
+has_built (Some (MadePackage p)) = true
+has_built (Some (FailedBuild phase code)) = false
+
+-- whether a node has a package, once these builds have ended
+abbrev pub is_there : KeptPackages → List (Option Outcome) → ℕ → Bool
+is_there kept outcomes n = is_kept kept n || has_built (outcome_at outcomes n)
+
+-- one place per node; outcomes stand only at nodes that were to be built and whose dependencies were there
+pub record FitsPartial (plan : PlanView) (kept : KeptPackages) (outcomes : List (Option Outcome)) : Type 0 where
+  pub places : length outcomes ≡ length plan.jobs
+  pub own : (n : ℕ) (outcome : Outcome) → outcome_at outcomes n ≡ Some outcome → (is_kept kept n ≡ false) × (is_ignored plan n ≡ false)
+  pub behind : (n : ℕ) (outcome : Outcome) → outcome_at outcomes n ≡ Some outcome → list_all (is_there kept outcomes) (depends plan n) ≡ true

@@ -13,3 +13,5 @@ pub mod Cause
 pub mod Lists
 pub mod Sound
 pub mod Baked
+pub mod Flags
+pub mod FileNames

@@ -1,5 +1,5 @@
 -- When a store's packages are those that their recipes give: keys, agreement and soundness.
-use Rattle.std.specs.Prelude.{◌≡◌, ℕ, zero, suc, List, ◌++◌, length, filter, codes, Some, Contains, All}
+use Rattle.std.specs.Prelude.{◌≡◌, ℕ, zero, suc, List, length, filter, Some, Contains, All}
 use Rattle.std.specs.List.{list_all, list_any}
 use Rattle.std.specs.FinMap.{get}
 use Rattle.bulk_base.specs.Names.{node_of}
@@ -8,6 +8,7 @@ use Rattle.bulk_base.specs.declared.file.Switch.{Switch}
 use Rattle.outside.specs.Contents.{Contents}
 use Rattle.bulk_model.specs.declared.depend.Depend.{Depend}
 use Rattle.bulk_model.specs.declared.outcome.Outcome.TheVariants.{Built}
+use Rattle.bulk_model.specs.FileNames.{package_file}
 use Rattle.bulk_model.specs.Views.{JobView, PackageView}
 use Rattle.bulk_model.specs.Installs.{installs_among, is_recorded_as}
 use Rattle.bulk_model.specs.Bake.{Runs, bake}
@@ -60,9 +61,6 @@ abbrev pub IsSound : Runs → List Recipe → List PackageView → Type 0
 IsSound runs table members = All (IsMade runs table (closed_part members)) (closed_part members)
 
 -- the packages of a store: those whose record stands under their own name
-abbrev pub package_file : List ℕ → List ℕ
-package_file name = name ++ codes ".pkg"
-
 pub record Holds (content : Contents) (members : List PackageView) : Type 0 where
   pub there : All (λ p. get content (package_file p.name) ≡ Some (spelling p)) members
   pub all : (p : PackageView) → get content (package_file p.name) ≡ Some (spelling p) → Contains members p

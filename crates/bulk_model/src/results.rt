@@ -1,5 +1,5 @@
 // What came of each node of a plan.
-use crate::outcome::Phase;
+use crate::outcome::{Outcome, Phase};
 use crate::package::Package;
 use crate::shared::Shared;
 use bulk_base::Sequence;
@@ -32,4 +32,14 @@ pub type Statuses = Sequence<Status>;
 pub struct Results {
     /// One status per node.
     pub statuses: Statuses,
+}
+
+/// An outcome for each node that has one.
+pub type MaybeOutcomes = Sequence<Option<Outcome>>;
+
+/// What came of the builds of a plan that have ended so far.
+#[derive(Debug, Drop)]
+pub struct Partial {
+    /// One place per node.
+    pub outcomes: MaybeOutcomes,
 }

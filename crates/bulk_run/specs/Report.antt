@@ -7,7 +7,7 @@ use Rattle.bulk_model.specs.declared.outcome.Outcome.TheVariants.{Built, Failed}
 use Rattle.bulk_model.specs.declared.reason.Notice.{Notice}
 use Rattle.bulk_model.specs.Results.{status_of_outcome}
 use Rattle.bulk_model.specs.Lists.{lists, exit_status}
-use Rattle.bulk_model.specs.Sound.{package_file}
+use Rattle.bulk_model.specs.FileNames.{package_file}
 use Rattle.bulk_model.specs.Spelling.{spelling}
 use Rattle.bulk_model.specs.Views.{JobView}
 use Rattle.bulk_run.specs.PortsPlan.{plan_of}

@@ -5,7 +5,7 @@ ghost use Rattle.std.specs.Option.{option_copied};
 ghost use Rattle.outside.specs.Changes.{IsUnchanged, Made};
 ghost use Rattle.outside.specs.Faults.{HasCause};
 ghost use Rattle.outside.specs.declared.change.Change.TheVariants.{Put};
-ghost use Rattle.bulk_model.specs.Sound.{package_file};
+ghost use Rattle.bulk_model.specs.FileNames.{package_file};
 ghost use Rattle.bulk_model.specs.Spelling.{spelling};
 ghost use Rattle.bulk_run.specs.Refusals.{is_package_file as is_package_file_of};
 

@@ -1,6 +1,6 @@
 use Rattle.std.proofs.Common.{◌∙◌, ap, sym}
 use Rattle.std.specs.FinMap.{insert}
-use Rattle.bulk_model.specs.Sound.{package_file}
+use Rattle.bulk_model.specs.FileNames.{package_file}
 use Rattle.bulk_model.specs.Spelling.{spelling}
 use Rattle.bulk_model.specs.Views.{PackageView}
 use Rattle.bulk_run.specs.Report.{stored}
