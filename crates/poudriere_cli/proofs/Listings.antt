@@ -36,9 +36,9 @@ has_none_below paths folder = list_all (λ path. not (is_below folder path)) pat
 none_below : (folder : List ℕ) (paths : List (List ℕ)) → has_none_below paths folder ≡ not (list_any (is_below folder) paths)
 none_below folder [] = refl
 none_below folder (path ∷ paths) = elim (is_below folder path) as (λ b. (not b && has_none_below paths folder) ≡ not (b || list_any (is_below folder) paths)) [
-    | true ↦ refl
-    | false ↦ none_below folder paths
-  ]
+  | true ↦ refl
+  | false ↦ none_below folder paths
+]
 
 -- what a search in the set of the paths tells
 pub told_below : (folder : List ℕ) (paths : List (List ℕ)) (set : TextSet) (found : Bool) → set ≡ set_of paths → found ≡ list_any (is_below folder) (keys set) → has_none_below paths folder ≡ not found
