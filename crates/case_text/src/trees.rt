@@ -34,10 +34,10 @@ fn file_of(alloc: Global, name: &str, bytes: &str) -> Result<FileItem, CaseError
     Ok(FileItem { path, bytes })
 }
 
-/// The files of a field, with `&` between: each a name, `:` and its bytes. `SUBDIR`, `MOVED` and `make.conf` stand for the files
-/// of that name, `CATEGORY/SUBDIR` for a category's list of ports, `CATEGORY/PORT` for a port's `port.vars`, and `CATEGORY_PORT`
-/// for its options file; a name that begins with `ports/`, `etc/` or `base/`, and any
-/// other, for that path, and `=PATH` always for the path.
+/// The files of a field, with `&` between: each a name, `:` and its bytes. `SUBDIR`, `MOVED` and `make.conf` stand for the
+/// files of that name, `CATEGORY/SUBDIR` for a category's list of ports, `CATEGORY/PORT` for a port's `port.vars`, and
+/// `CATEGORY_PORT` for its options file; a name that begins with `ports/`, `etc/` or `base/`, and any other, for that path,
+/// and `=PATH` always for the path.
 pub fn files_of(alloc: Global, field: &str) -> Result<Files, CaseError> {
     let mut files = Sequence::new(alloc);
     for part in field.split('&') {
@@ -74,9 +74,9 @@ fn fail_of(word: &str) -> Result<Fail, CaseError> {
     }
 }
 
-/// The calls of an object of this name that are to fail by a field, whose parts have `,` between: each the object's name, that of the
-/// call, and its number among the object's calls of that name, from 1. Where `object` is empty, parts begin with the call. Unfit where
-/// a part of the object's is of another form.
+/// The calls of an object of this name that are to fail by a field, whose parts have `,` between: each the object's name,
+/// that of the call, and its number among the object's calls of that name, from 1. Where `object` is empty, parts begin with
+/// the call. Unfit where a part of the object's is of another form.
 pub fn fails_of(alloc: Global, field: &str, object: &str) -> Result<Fails, CaseError> {
     let mut fails = Sequence::new(alloc);
     for part in field.split(',') {

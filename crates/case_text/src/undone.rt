@@ -53,9 +53,9 @@ fn push_run(out: &mut Vec<u8>, run: &str) -> Result<(), AllocError> {
     }
 }
 
-/// Puts the bytes at the end that a field stands for. In it `␊` is a line feed, `␍` a carriage return, `␉` a tab, `␀` NUL
-/// and `¦` a bar. `«COUNT*TEXT»` is the text so many times, in which `№` stands for the turn, from 000, and `«HH»` is the byte
-/// with these two hexadecimal digits. All else stands for itself.
+/// Puts the bytes at the end that a field stands for. In it `␊` is a line feed, `␍` a carriage return, `␉` a tab, `␀` NUL and
+/// `¦` a bar. `«COUNT*TEXT»` is the text so many times, in which `№` stands for the turn, from 000, and `«HH»` is the byte with
+/// these two hexadecimal digits. All else stands for itself.
 pub fn push_bytes(out: &mut Vec<u8>, field: &str) -> Result<(), AllocError> {
     let mut is_run = false;
     for piece in field.split(|letter: char| letter == '«' || letter == '»') {

@@ -30,12 +30,19 @@ pub(crate) fn kind_named(field: &str) -> Result<DepKind, CaseError> {
     }
 }
 
+/// A word's letter for a kind, if it begins with one, and what stands behind it.
+fn parted(word: &str) -> (DepKind, &str) {
+    if let Some(letter) = word.chars().next() {
+        if letter.is_ascii_alphabetic() {
+            return (kind_of(letter), word.strip_prefix(letter).unwrap_or(word));
+        }
+    }
+    (DepKind::Build, word)
+}
+
 /// The edge of a word: a letter for the kind, perhaps, and the number of a node.
 fn edge_of(word: &str) -> Result<Edge, CaseError> {
-    let (kind, number) = match word.chars().next() {
-        Some(letter) if letter.is_ascii_alphabetic() => (kind_of(letter), &word[1..]),
-        _ => (DepKind::Build, word),
-    };
+    let (kind, number) = parted(word);
     match number.parse() {
         Ok(to) => Ok(Edge { kind, to }),
         Err(_) => Err(CaseError::Unfit),

@@ -137,17 +137,33 @@ fn push_installed(
     Ok(push_numbers(alloc, nodes.as_slice(), out)?)
 }
 
+/// Puts at the end what a collector collects for a node.
+fn push_next(
+    alloc: Global,
+    collector: &mut Collector,
+    plan: &Plan,
+    node: u32,
+    out: &mut Vec<u8>,
+) -> Result<(), NoMemory>
+    requires plan { collector.old ≡ length plan.now.jobs }
+    requires node { node < length plan.now.jobs }
+    ensures { collector.new ≡ collector.old }
+{
+    let nodes = collector.collect(alloc, plan, node)?;
+    push_numbers(alloc, nodes.as_slice(), out)?;
+    push_str(out, ";")
+}
+
 /// Puts at the end what one collector collects for each node in turn, and then for the last and the first again.
-fn push_collected(alloc: Global, plan: &Plan, out: &mut Vec<u8>) -> Result<(), CaseError>
+fn push_collected(alloc: Global, plan: &Plan, out: &mut Vec<u8>) -> Result<(), NoMemory>
     requires { length plan.now.jobs ≡ 3 }
 {
     let mut collector = Collector::new(alloc, plan)?;
-    for node in [0, 1, 2, 2, 0] {
-        let nodes = collector.collect(alloc, plan, node)?;
-        push_numbers(alloc, nodes.as_slice(), out)?;
-        push_str(out, ";")?;
-    }
-    Ok(())
+    push_next(alloc, &mut collector, plan, 0, out)?;
+    push_next(alloc, &mut collector, plan, 1, out)?;
+    push_next(alloc, &mut collector, plan, 2, out)?;
+    push_next(alloc, &mut collector, plan, 2, out)?;
+    push_next(alloc, &mut collector, plan, 0, out)
 }
 
 /// What one collector collects for the nodes of the chain of three, and of the fan of three.
@@ -162,7 +178,8 @@ pub(crate) fn answer_collected(
     push_collected(alloc, &chain, out)?;
     push_str(out, " fan")?;
     let fan = fan_of_three(alloc, first, second)?;
-    push_collected(alloc, &fan, out)
+    push_collected(alloc, &fan, out)?;
+    Ok(())
 }
 
 /// What is installed for a node of three, the second of which depends on the first by a kind, and the third on the second by another.
