@@ -13,4 +13,3 @@ pub mod Turns
 pub mod Ordered
 pub mod LongChains
 pub mod OrderLaws
-pub mod ThreePorts
