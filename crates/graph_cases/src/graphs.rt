@@ -1,4 +1,6 @@
 // Orders, chains of dependents, what is reached, and dependents.
+ghost use Rattle.std.specs.Prelude.{◌<◌, length, IsTrue};
+ghost use Rattle.std.specs.List.{All};
 
 use crate::making::{graph_of, lists_of};
 use bulk_base::Sequence;
@@ -102,6 +104,12 @@ fn nodes_of(alloc: Global, field: &str) -> Result<Numbers, CaseError> {
     Ok(nodes)
 }
 
+fn are_nodes(lists: &[Edges], nodes: &[u32]) -> bool
+    ensures { IsTrue result → All (λ n. n < length lists.now) nodes.now }
+{
+    nodes.iter().all(|node| (*node as usize) < lists.len())
+}
+
 /// What some nodes reach. Unfit where one is no node.
 pub(crate) fn answer_reach(
     alloc: Global,
@@ -111,8 +119,7 @@ pub(crate) fn answer_reach(
 ) -> Result<(), CaseError> {
     let graph = graph_of(alloc, lists_of(alloc, field)?)?;
     let from = nodes_of(alloc, from)?;
-    let count = graph.edges().len();
-    if !from.iter().all(|node| (*node as usize) < count) {
+    if !are_nodes(graph.edges().as_slice(), from.as_slice()) {
         return Err(CaseError::Unfit);
     }
     let reached = graph.reach(alloc, from.as_slice())?;
