@@ -87,13 +87,17 @@ fn push_order(alloc: Global, graph: &Graph, out: &mut Vec<u8>) -> Result<(), All
     }
 }
 
+fn push_graph(alloc: Global, graph: &Graph, out: &mut Vec<u8>) -> Result<(), AllocError> {
+    push_order(alloc, graph, out)?;
+    push_str(out, "; dependents")?;
+    let dependents = graph.dependents(alloc)?;
+    push_lists(alloc, dependents.edges().as_slice(), out)
+}
+
 /// Whether a graph has an order; the longest chains of dependents; and the graph of dependents.
 pub(crate) fn answer_graph(alloc: Global, field: &str, out: &mut Vec<u8>) -> Result<(), CaseError> {
     let graph = graph_of(alloc, lists_of(alloc, field)?)?;
-    push_order(alloc, &graph, out)?;
-    push_str(out, "; dependents")?;
-    let dependents = graph.dependents(alloc)?;
-    Ok(push_lists(alloc, dependents.edges().as_slice(), out)?)
+    Ok(push_graph(alloc, &graph, out)?)
 }
 
 fn nodes_of(alloc: Global, field: &str) -> Result<Numbers, CaseError> {

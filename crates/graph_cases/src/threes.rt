@@ -166,6 +166,24 @@ fn push_collected(alloc: Global, plan: &Plan, out: &mut Vec<u8>) -> Result<(), N
     push_next(alloc, &mut collector, plan, 0, out)
 }
 
+fn push_of_chain(
+    alloc: Global,
+    first: DepKind,
+    second: DepKind,
+    out: &mut Vec<u8>,
+) -> Result<(), NoMemory> {
+    push_collected(alloc, &chain_of_three(alloc, first, second)?, out)
+}
+
+fn push_of_fan(
+    alloc: Global,
+    first: DepKind,
+    second: DepKind,
+    out: &mut Vec<u8>,
+) -> Result<(), NoMemory> {
+    push_collected(alloc, &fan_of_three(alloc, first, second)?, out)
+}
+
 /// What one collector collects for the nodes of the chain of three, and of the fan of three.
 pub(crate) fn answer_collected(
     alloc: Global,
@@ -174,12 +192,9 @@ pub(crate) fn answer_collected(
     out: &mut Vec<u8>,
 ) -> Result<(), CaseError> {
     let (first, second) = (kind_named(first)?, kind_named(second)?);
-    let chain = chain_of_three(alloc, first, second)?;
-    push_collected(alloc, &chain, out)?;
+    push_of_chain(alloc, first, second, out)?;
     push_str(out, " fan")?;
-    let fan = fan_of_three(alloc, first, second)?;
-    push_collected(alloc, &fan, out)?;
-    Ok(())
+    Ok(push_of_fan(alloc, first, second, out)?)
 }
 
 /// What is installed for a node of three, the second of which depends on the first by a kind, and the third on the second by another.
@@ -188,7 +203,8 @@ pub(crate) fn answer_chain(
     [first, second, node]: [&str; 3],
     out: &mut Vec<u8>,
 ) -> Result<(), CaseError> {
-    let plan = chain_of_three(alloc, kind_named(first)?, kind_named(second)?)?;
+    let (first, second) = (kind_named(first)?, kind_named(second)?);
+    let plan = chain_of_three(alloc, first, second)?;
     push_installed(alloc, &plan, node, out)
 }
 
@@ -198,6 +214,7 @@ pub(crate) fn answer_fan(
     [first, second, node]: [&str; 3],
     out: &mut Vec<u8>,
 ) -> Result<(), CaseError> {
-    let plan = fan_of_three(alloc, kind_named(first)?, kind_named(second)?)?;
+    let (first, second) = (kind_named(first)?, kind_named(second)?);
+    let plan = fan_of_three(alloc, first, second)?;
     push_installed(alloc, &plan, node, out)
 }

@@ -1,8 +1,10 @@
 // How runs end.
-use bulk_run::Answer;
+use bulk_run::{Answer, Closed};
+use case_text::{push_number, push_str};
+use std::alloc::{AllocError, Global};
 
 /// The variant of an answer.
-pub(crate) fn answer_name(answer: &Answer) -> &'static str {
+fn answer_name(answer: &Answer) -> &'static str {
     match answer {
         Answer::Done => "Done",
         Answer::Usage => "Usage",
@@ -22,4 +24,15 @@ pub(crate) fn answer_name(answer: &Answer) -> &'static str {
         Answer::SinkFault => "SinkFault",
         Answer::NoMemory => "NoMemory",
     }
+}
+
+/// Puts at the end how a run ended: its status, and the variant of its answer.
+pub(crate) fn push_closed(
+    alloc: Global,
+    closed: &Closed,
+    out: &mut Vec<u8>,
+) -> Result<(), AllocError> {
+    push_number(alloc, out, u64::from(closed.status))?;
+    push_str(out, " ")?;
+    push_str(out, answer_name(&closed.answer))
 }

@@ -1,42 +1,43 @@
 // Runs to which no room is handed.
-use crate::endings::answer_name;
+use crate::endings::push_closed;
 use crate::memory::{MemRoom, MemSink, MemStore, OpenGate};
 use crate::trees::tree_of;
 use bulk_base::{Sequence, Text};
-use bulk_run::{Finished, poudriere};
-use case_text::{CaseError, files_of, push_number, push_str, words_of};
+use bulk_run::{Closed, Finished, poudriere};
+use case_text::{CaseError, files_of, push_str, words_of};
 use std::alloc::{AllocError, Global};
 use std::sync::Wait;
 use std::thread::Threads;
-
-/// How a run ended.
-fn push_finished(
-    alloc: Global,
-    finished: Finished<MemStore, MemRoom>,
-    out: &mut Vec<u8>,
-) -> Result<(), AllocError> {
-    let Finished {
-        status,
-        answer,
-        store,
-        rooms,
-    } = finished;
-    drop((store, rooms));
-    push_number(alloc, out, u64::from(status))?;
-    push_str(out, " ")?;
-    push_str(out, answer_name(&answer))
-}
 
 fn run<W: Threads + Wait + Sync>(
     rt: &W,
     alloc: Global,
     words: &[Text],
     sink: &mut MemSink,
-) -> Result<Finished<MemStore, MemRoom>, CaseError> {
+) -> Result<Closed, CaseError> {
     let mut tree = tree_of(alloc, files_of(alloc, "")?, "")?;
     let store = MemStore::new(alloc, Sequence::new(alloc), Sequence::new(alloc))?;
     let rooms = Vec::<MemRoom>::new(alloc);
-    Ok(poudriere(rt, alloc, words, &mut tree, store, rooms, &OpenGate, sink))
+    let Finished {
+        status,
+        answer,
+        store,
+        rooms,
+    } = poudriere(rt, alloc, words, &mut tree, store, rooms, &OpenGate, sink);
+    drop((store, rooms));
+    Ok(Closed { status, answer })
+}
+
+/// Puts at the end how a run ended, and what was printed.
+fn push_printed(
+    alloc: Global,
+    closed: &Closed,
+    sink: &MemSink,
+    out: &mut Vec<u8>,
+) -> Result<(), AllocError> {
+    push_closed(alloc, closed, out)?;
+    push_str(out, "; ")?;
+    out.extend_from_slice(sink.written())
 }
 
 /// A run of some words without a room: its status, how it ended, and what was printed.
@@ -48,9 +49,6 @@ pub(crate) fn answer_roomless<W: Threads + Wait + Sync>(
 ) -> Result<(), CaseError> {
     let words = words_of(alloc, words)?;
     let mut sink = MemSink::new(alloc, Sequence::new(alloc))?;
-    let finished = run(rt, alloc, words.as_slice(), &mut sink)?;
-    push_finished(alloc, finished, out)?;
-    push_str(out, "; ")?;
-    out.extend_from_slice(sink.written())?;
-    Ok(())
+    let closed = run(rt, alloc, words.as_slice(), &mut sink)?;
+    Ok(push_printed(alloc, &closed, &sink, out)?)
 }

@@ -78,6 +78,38 @@ fn push_call(
     }
 }
 
+/// Puts at the end what a call of the room answers that may be a command, behind `$ `.
+fn push_call_or_run(
+    alloc: Global,
+    room: &mut MemRoom,
+    call: &str,
+    out: &mut Vec<u8>,
+) -> Result<(), CaseError> {
+    match call.strip_prefix("$ ") {
+        Some(command) => push_run(alloc, room, command, out),
+        None => {
+            let words: Vec<&str> = call.split(' ').collect(alloc)?;
+            push_call(alloc, room, words.as_slice(), out)
+        }
+    }
+}
+
+fn push_calls(
+    alloc: Global,
+    room: &mut MemRoom,
+    calls: &str,
+    out: &mut Vec<u8>,
+) -> Result<(), CaseError> {
+    for call in calls.split(';') {
+        push_call_or_run(alloc, room, call, out)?;
+        push_str(out, "; ")?;
+    }
+    push_str(out, "begun")?;
+    push_texts(out, room.begun())?;
+    push_str(out, "; faults ")?;
+    Ok(push_number(alloc, out, room.faults())?)
+}
+
 /// What the calls of a room answer, one after another, with `;` between, the names that were begun, and how many calls failed. A call
 /// that begins with `$ ` is a command.
 pub(crate) fn answer_room(
@@ -87,18 +119,5 @@ pub(crate) fn answer_room(
     out: &mut Vec<u8>,
 ) -> Result<(), CaseError> {
     let mut room = MemRoom::new(alloc, fails_of(alloc, fails, "")?)?;
-    for call in calls.split(';') {
-        match call.strip_prefix("$ ") {
-            Some(command) => push_run(alloc, &mut room, command, out)?,
-            None => {
-                let words: Vec<&str> = call.split(' ').collect(alloc)?;
-                push_call(alloc, &mut room, words.as_slice(), out)?;
-            }
-        }
-        push_str(out, "; ")?;
-    }
-    push_str(out, "begun")?;
-    push_texts(out, room.begun())?;
-    push_str(out, "; faults ")?;
-    Ok(push_number(alloc, out, room.faults())?)
+    push_calls(alloc, &mut room, calls, out)
 }

@@ -1,13 +1,11 @@
 // Runs, and what they leave.
-use crate::endings::answer_name;
-use crate::memory::{Items, MemRoom, MemSink, MemStore, Outer, Store};
+use crate::endings::push_closed;
+use crate::memory::{Items, MemRoom, MemSink, MemStore, MemTree, Outer, Store};
 use crate::stores::{items_of, push_names};
 use crate::trees::tree_of;
 use bulk_base::{Text, Texts};
 use bulk_run::{Closed, bulk_alone};
-use case_text::{
-    CaseError, fails_of, files_of, push_number, push_str, push_texts, text_of, words_of,
-};
+use case_text::{CaseError, fails_of, files_of, push_str, push_texts, text_of, words_of};
 use std::alloc::{AllocError, Global};
 
 /// How a run ended, and the objects that it leaves.
@@ -19,6 +17,25 @@ struct Ran {
     out: MemSink,
 }
 
+/// A run over a tree and a store.
+fn run_over(
+    alloc: Global,
+    words: &[Text],
+    tree: &mut MemTree,
+    mut store: MemStore,
+    fails: &str,
+) -> Result<Ran, CaseError> {
+    let mut room = MemRoom::new(alloc, fails_of(alloc, fails, "room")?)?;
+    let mut out = MemSink::new(alloc, fails_of(alloc, fails, "sink")?)?;
+    let closed = bulk_alone(alloc, words, tree, &mut store, &mut room, &mut out);
+    Ok(Ran {
+        closed,
+        store,
+        room,
+        out,
+    })
+}
+
 fn run(
     alloc: Global,
     words: &[Text],
@@ -27,16 +44,8 @@ fn run(
     fails: &str,
 ) -> Result<Ran, CaseError> {
     let mut tree = tree_of(alloc, files_of(alloc, files)?, fails)?;
-    let mut store = MemStore::new(alloc, items, fails_of(alloc, fails, "store")?)?;
-    let mut room = MemRoom::new(alloc, fails_of(alloc, fails, "room")?)?;
-    let mut out = MemSink::new(alloc, fails_of(alloc, fails, "sink")?)?;
-    let closed = bulk_alone(alloc, words, &mut tree, &mut store, &mut room, &mut out);
-    Ok(Ran {
-        closed,
-        store,
-        room,
-        out,
-    })
+    let store = MemStore::new(alloc, items, fails_of(alloc, fails, "store")?)?;
+    run_over(alloc, words, &mut tree, store, fails)
 }
 
 /// Puts at the end what came of a run.
@@ -46,9 +55,7 @@ fn push_ran(
     names: &Result<Texts, Outer>,
     out: &mut Vec<u8>,
 ) -> Result<(), AllocError> {
-    push_number(alloc, out, u64::from(ran.closed.status))?;
-    push_str(out, " ")?;
-    push_str(out, answer_name(&ran.closed.answer))?;
+    push_closed(alloc, &ran.closed, out)?;
     push_str(out, "; store ")?;
     push_names(names, out)?;
     push_str(out, "; begun")?;

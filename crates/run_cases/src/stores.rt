@@ -105,6 +105,41 @@ fn push_change(change: &Change, out: &mut Vec<u8>) -> Result<(), AllocError> {
     }
 }
 
+/// Puts at the end what the calls of a store answer, one after another.
+fn push_calls(
+    alloc: Global,
+    store: &mut MemStore,
+    calls: &str,
+    out: &mut Vec<u8>,
+) -> Result<(), CaseError> {
+    for call in calls.split(';') {
+        let words: Vec<&str> = call.split(' ').collect(alloc)?;
+        push_call(alloc, store, words.as_slice(), out)?;
+        push_str(out, "; ")?;
+    }
+    Ok(())
+}
+
+/// Puts at the end the journal of a store, and how many of its calls failed.
+fn push_journal(alloc: Global, store: &MemStore, out: &mut Vec<u8>) -> Result<(), AllocError> {
+    push_str(out, "journal")?;
+    for change in store.journal() {
+        push_change(change, out)?;
+    }
+    push_str(out, "; faults ")?;
+    push_number(alloc, out, store.faults())
+}
+
+fn push_store(
+    alloc: Global,
+    store: &mut MemStore,
+    calls: &str,
+    out: &mut Vec<u8>,
+) -> Result<(), CaseError> {
+    push_calls(alloc, store, calls, out)?;
+    Ok(push_journal(alloc, store, out)?)
+}
+
 /// What the calls of a store answer, one after another, its journal, and how many of them failed.
 pub(crate) fn answer_store(
     alloc: Global,
@@ -115,17 +150,25 @@ pub(crate) fn answer_store(
 ) -> Result<(), CaseError> {
     let items = items_of(alloc, items)?;
     let mut store = MemStore::new(alloc, items, fails_of(alloc, fails, "")?)?;
-    for call in calls.split(';') {
-        let words: Vec<&str> = call.split(' ').collect(alloc)?;
-        push_call(alloc, &mut store, words.as_slice(), out)?;
+    push_store(alloc, &mut store, calls, out)
+}
+
+/// Puts at the end whether a sink takes some pieces, what was written, and how many calls failed.
+fn push_pieces(
+    alloc: Global,
+    sink: &mut MemSink,
+    pieces: &str,
+    out: &mut Vec<u8>,
+) -> Result<(), CaseError> {
+    for piece in pieces.split(';') {
+        let bytes = bytes_of(alloc, piece)?;
+        push_done(&sink.write(alloc, bytes.as_slice()), out)?;
         push_str(out, "; ")?;
     }
-    push_str(out, "journal")?;
-    for change in store.journal() {
-        push_change(change, out)?;
-    }
+    push_str(out, "written ")?;
+    out.extend_from_slice(sink.written())?;
     push_str(out, "; faults ")?;
-    Ok(push_number(alloc, out, store.faults())?)
+    Ok(push_number(alloc, out, sink.faults())?)
 }
 
 /// Whether a sink takes some pieces, with `;` between, what was written, and how many calls failed.
@@ -136,13 +179,5 @@ pub(crate) fn answer_sink(
     out: &mut Vec<u8>,
 ) -> Result<(), CaseError> {
     let mut sink = MemSink::new(alloc, fails_of(alloc, fails, "")?)?;
-    for piece in pieces.split(';') {
-        let bytes = bytes_of(alloc, piece)?;
-        push_done(&sink.write(alloc, bytes.as_slice()), out)?;
-        push_str(out, "; ")?;
-    }
-    push_str(out, "written ")?;
-    out.extend_from_slice(sink.written())?;
-    push_str(out, "; faults ")?;
-    Ok(push_number(alloc, out, sink.faults())?)
+    push_pieces(alloc, &mut sink, pieces, out)
 }

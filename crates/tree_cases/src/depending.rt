@@ -1,10 +1,10 @@
 // What nodes of an index depend on.
-use crate::indexes::index_of;
+use crate::indexes::good_index;
 use crate::nodes::kind_name;
 use bulk_model::{Depends, Edges};
 use case_text::{CaseError, number_of, push_number, push_str, push_text};
 use std::alloc::{AllocError, Global};
-use tree_index::{depends_of, edges_of};
+use tree_index::{Index, depends_of, edges_of};
 
 fn push_edges(alloc: Global, edges: &Option<Edges>, out: &mut Vec<u8>) -> Result<(), AllocError> {
     let Some(edges) = edges else {
@@ -32,6 +32,20 @@ fn push_depends(depends: &Option<Depends>, out: &mut Vec<u8>) -> Result<(), Allo
     Ok(())
 }
 
+fn push_depending(
+    alloc: Global,
+    index: &Index,
+    node: &str,
+    out: &mut Vec<u8>,
+) -> Result<(), CaseError> {
+    let node = number_of(node)?;
+    if node >= index.nodes.len() as u64 {
+        return Err(CaseError::Unfit);
+    }
+    push_edges(alloc, &edges_of(alloc, index, node as u32)?, out)?;
+    Ok(push_depends(&depends_of(alloc, index, node as u32)?, out)?)
+}
+
 /// What the node of a number depends on, by numbers and by names.
 pub(crate) fn answer_depends(
     alloc: Global,
@@ -39,13 +53,5 @@ pub(crate) fn answer_depends(
     node: &str,
     out: &mut Vec<u8>,
 ) -> Result<(), CaseError> {
-    let (Ok(index), _) = index_of(alloc, files, "", false)? else {
-        return Err(CaseError::Unfit);
-    };
-    let node = number_of(node)?;
-    if node >= index.nodes.len() as u64 {
-        return Err(CaseError::Unfit);
-    }
-    push_edges(alloc, &edges_of(alloc, &index, node as u32)?, out)?;
-    Ok(push_depends(&depends_of(alloc, &index, node as u32)?, out)?)
+    push_depending(alloc, &good_index(alloc, files)?, node, out)
 }

@@ -47,6 +47,15 @@ pub(crate) fn index_of(
     Ok((found, tree.faults()))
 }
 
+/// The index of a tree that has one.
+pub(crate) fn good_index(alloc: Global, files: &str) -> Result<Index, CaseError> {
+    let (found, _) = index_of(alloc, files, "", false)?;
+    match found {
+        Ok(index) => Ok(index),
+        Err(_) => Err(CaseError::Unfit),
+    }
+}
+
 /// Puts an index at the end: how many lines MOVED has, and the nodes.
 fn push_index(alloc: Global, index: &Index, out: &mut Vec<u8>) -> Result<(), AllocError> {
     push_number(alloc, out, index.moved.lines().len() as u64)?;
@@ -61,6 +70,24 @@ fn push_index(alloc: Global, index: &Index, out: &mut Vec<u8>) -> Result<(), All
     Ok(())
 }
 
+/// Puts at the end what came of a tree; behind it, how often the tree failed, if it did.
+fn push_found(
+    alloc: Global,
+    found: &Result<Index, IndexError>,
+    faults: u64,
+    out: &mut Vec<u8>,
+) -> Result<(), AllocError> {
+    match found {
+        Ok(index) => push_index(alloc, index, out)?,
+        Err(refusal) => push_refusal(alloc, refusal, out)?,
+    }
+    if faults == 0 {
+        return Ok(());
+    }
+    push_str(out, "; faults ")?;
+    push_number(alloc, out, faults)
+}
+
 /// The index of a tree, or its refusal; behind it, how often the tree failed, if it did.
 pub(crate) fn answer_index(
     alloc: Global,
@@ -70,13 +97,18 @@ pub(crate) fn answer_index(
     out: &mut Vec<u8>,
 ) -> Result<(), CaseError> {
     let (found, faults) = index_of(alloc, files, fails, try_broken)?;
-    match &found {
-        Ok(index) => push_index(alloc, index, out)?,
-        Err(refusal) => push_refusal(alloc, refusal, out)?,
-    }
-    if faults > 0 {
-        push_str(out, "; faults ")?;
-        push_number(alloc, out, faults)?;
+    Ok(push_found(alloc, &found, faults, out)?)
+}
+
+fn push_there(
+    alloc: Global,
+    index: &Index,
+    names: &str,
+    out: &mut Vec<u8>,
+) -> Result<(), CaseError> {
+    for name in words_of(alloc, names)?.as_slice() {
+        push_str(out, if index.names.holds(name) { "+" } else { "-" })?;
+        push_text(out, name)?;
     }
     Ok(())
 }
@@ -88,12 +120,5 @@ pub(crate) fn answer_there(
     names: &str,
     out: &mut Vec<u8>,
 ) -> Result<(), CaseError> {
-    let (Ok(index), _) = index_of(alloc, files, "", false)? else {
-        return Err(CaseError::Unfit);
-    };
-    for name in words_of(alloc, names)?.as_slice() {
-        push_str(out, if index.names.holds(name) { "+" } else { "-" })?;
-        push_text(out, name)?;
-    }
-    Ok(())
+    push_there(alloc, &good_index(alloc, files)?, names, out)
 }

@@ -1,4 +1,5 @@
 // Nodes of an index.
+use bulk_base::{Switches, Text};
 use bulk_model::DepKind;
 use case_text::{push_str, push_text};
 use std::alloc::AllocError;
@@ -38,6 +39,23 @@ fn push_target(target: &Target, nodes: &[NodeInfo], out: &mut Vec<u8>) -> Result
     }
 }
 
+fn push_options(options: &Switches, out: &mut Vec<u8>) -> Result<(), AllocError> {
+    for option in options {
+        push_str(out, if option.on { " +" } else { " -" })?;
+        push_text(out, &option.name)?;
+    }
+    Ok(())
+}
+
+fn push_reason(ignored: &Option<Text>, out: &mut Vec<u8>) -> Result<(), AllocError> {
+    let Some(reason) = ignored else {
+        return Ok(());
+    };
+    push_str(out, " (")?;
+    push_text(out, reason)?;
+    push_str(out, ")")
+}
+
 /// Puts a node at the end: its name, with `*` where it is its port's default; the package's name; its options; why it is not
 /// built; and where its dependencies lead.
 pub(crate) fn push_node(
@@ -49,15 +67,8 @@ pub(crate) fn push_node(
     push_text(out, &node.node)?;
     push_str(out, if node.is_default { "* " } else { " " })?;
     push_text(out, &node.desc.name)?;
-    for option in &node.options {
-        push_str(out, if option.on { " +" } else { " -" })?;
-        push_text(out, &option.name)?;
-    }
-    if let Some(reason) = &node.ignored {
-        push_str(out, " (")?;
-        push_text(out, reason)?;
-        push_str(out, ")")?;
-    }
+    push_options(&node.options, out)?;
+    push_reason(&node.ignored, out)?;
     for target in &node.targets {
         push_target(target, nodes, out)?;
     }

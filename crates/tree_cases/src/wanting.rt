@@ -1,5 +1,5 @@
 // The nodes that a command's words want.
-use crate::indexes::index_of;
+use crate::indexes::good_index;
 use bulk_base::{Sequence, Texts};
 use case_text::{CaseError, bytes_of, push_str, push_text, push_texts, text_of};
 use origin_flavor::{Wanted, WantedError, wanted};
@@ -57,6 +57,18 @@ fn push_refusal(alloc: Global, refusal: &WantedError, out: &mut Vec<u8>) -> Resu
     Ok(())
 }
 
+fn push_found(
+    alloc: Global,
+    index: &Index,
+    found: &Result<Wanted, WantedError>,
+    out: &mut Vec<u8>,
+) -> Result<(), AllocError> {
+    match found {
+        Ok(found) => push_wanted(index, found, out),
+        Err(refusal) => push_refusal(alloc, refusal, out),
+    }
+}
+
 fn answer_in(
     alloc: Global,
     index: &Index,
@@ -72,28 +84,30 @@ fn answer_in(
     }
     let all = flags.contains('a');
     let every_flavor = flags.contains('e');
-    match wanted(alloc, index, list, words.as_slice(), all, every_flavor) {
-        Ok(found) => Ok(push_wanted(index, &found, out)?),
-        Err(refusal) => Ok(push_refusal(alloc, &refusal, out)?),
+    let found = wanted(alloc, index, list, words.as_slice(), all, every_flavor);
+    Ok(push_found(alloc, index, &found, out)?)
+}
+
+fn answer_over(
+    alloc: Global,
+    index: &Index,
+    [list, words, flags]: [&str; 3],
+    out: &mut Vec<u8>,
+) -> Result<(), CaseError> {
+    let words = words_of_field(alloc, words)?;
+    if list == "-" {
+        return answer_in(alloc, index, None, &words, flags, out);
     }
+    let bytes = bytes_of(alloc, list)?;
+    answer_in(alloc, index, Some(bytes.as_slice()), &words, flags, out)
 }
 
 /// The nodes that a list file, if it is not `-`, and words want; `a` among the flags asks for all nodes, and `e` for every flavor.
 pub(crate) fn answer_wanted(
     alloc: Global,
     tree: &str,
-    [list, words, flags]: [&str; 3],
+    fields: [&str; 3],
     out: &mut Vec<u8>,
 ) -> Result<(), CaseError> {
-    let (Ok(index), _) = index_of(alloc, tree, "", false)? else {
-        return Err(CaseError::Unfit);
-    };
-    let words = words_of_field(alloc, words)?;
-    let bytes = bytes_of(alloc, list)?;
-    let list = if list == "-" {
-        None
-    } else {
-        Some(bytes.as_slice())
-    };
-    answer_in(alloc, &index, list, &words, flags, out)
+    answer_over(alloc, &good_index(alloc, tree)?, fields, out)
 }
