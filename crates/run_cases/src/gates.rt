@@ -21,6 +21,11 @@ pub(crate) fn answer_gate(limit: &str, builders: &str, out: &mut Vec<u8>) -> Res
     Ok(push_met(out, &gate)?)
 }
 
+/// Two builders pass at once, on a thread each.
+fn meet<W: Threads>(rt: &W, gate: &MeetGate) {
+    let _ = join(rt, || gate.pass(0, 0), || gate.pass(1, 1));
+}
+
 /// The same of two builders that pass at once, on a thread each.
 pub(crate) fn answer_meeting<W: Threads>(
     rt: &W,
@@ -28,6 +33,6 @@ pub(crate) fn answer_meeting<W: Threads>(
     out: &mut Vec<u8>,
 ) -> Result<(), CaseError> {
     let gate = MeetGate::new(number_of(limit)?);
-    let _ = join(rt, || gate.pass(0, 0), || gate.pass(1, 1));
+    meet(rt, &gate);
     Ok(push_met(out, &gate)?)
 }

@@ -17,6 +17,17 @@ struct Ran {
     out: MemSink,
 }
 
+fn close(
+    alloc: Global,
+    words: &[Text],
+    tree: &mut MemTree,
+    store: &mut MemStore,
+    room: &mut MemRoom,
+    out: &mut MemSink,
+) -> Closed {
+    bulk_alone(alloc, words, tree, store, room, out)
+}
+
 /// A run over a tree and a store.
 fn run_over(
     alloc: Global,
@@ -27,7 +38,7 @@ fn run_over(
 ) -> Result<Ran, CaseError> {
     let mut room = MemRoom::new(alloc, fails_of(alloc, fails, "room")?)?;
     let mut out = MemSink::new(alloc, fails_of(alloc, fails, "sink")?)?;
-    let closed = bulk_alone(alloc, words, tree, &mut store, &mut room, &mut out);
+    let closed = close(alloc, words, tree, &mut store, &mut room, &mut out);
     Ok(Ran {
         closed,
         store,
