@@ -75,6 +75,11 @@ fn push_ran(
     out.extend_from_slice(ran.out.written())
 }
 
+fn push_ended(alloc: Global, ran: &mut Ran, out: &mut Vec<u8>) -> Result<(), AllocError> {
+    let names = ran.store.names(alloc);
+    push_ran(alloc, ran, &names, out)
+}
+
 /// A run over a tree and a store with empty files, in which some calls of each object fail: its status, how it ended, the names in the
 /// store, the builds that were begun, and what was printed.
 pub(crate) fn answer_run(
@@ -85,8 +90,21 @@ pub(crate) fn answer_run(
     let words = words_of(alloc, words)?;
     let items = items_of(alloc, store)?;
     let mut ran = run(alloc, words.as_slice(), files, items, fails)?;
-    let names = ran.store.names(alloc);
-    Ok(push_ran(alloc, &ran, &names, out)?)
+    Ok(push_ended(alloc, &mut ran, out)?)
+}
+
+fn push_stored(
+    alloc: Global,
+    store: &mut MemStore,
+    name: &str,
+    out: &mut Vec<u8>,
+) -> Result<(), CaseError> {
+    let name = text_of(alloc, name)?;
+    match store.get(alloc, &name, 1_000_000) {
+        Ok(Some(bytes)) => Ok(out.extend_from_slice(bytes.as_slice())?),
+        Ok(None) => Ok(push_str(out, "none")?),
+        Err(_) => Err(CaseError::Unfit),
+    }
 }
 
 /// What a run leaves in the store under a name.
@@ -98,10 +116,5 @@ pub(crate) fn answer_stored(
     let words = words_of(alloc, words)?;
     let items = items_of(alloc, "")?;
     let mut ran = run(alloc, words.as_slice(), files, items, "")?;
-    let name = text_of(alloc, name)?;
-    match ran.store.get(alloc, &name, 1_000_000) {
-        Ok(Some(bytes)) => Ok(out.extend_from_slice(bytes.as_slice())?),
-        Ok(None) => Ok(push_str(out, "none")?),
-        Err(_) => Err(CaseError::Unfit),
-    }
+    push_stored(alloc, &mut ran.store, name, out)
 }
