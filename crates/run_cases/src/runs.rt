@@ -1,6 +1,6 @@
 // Runs, and what they leave.
 use crate::endings::push_closed;
-use crate::memory::{Items, MemRoom, MemSink, MemStore, MemTree, Outer, Store};
+use crate::memory::{MemRoom, MemSink, MemStore, MemTree, Outer, Store};
 use crate::stores::{items_of, push_names};
 use crate::trees::tree_of;
 use bulk_base::{Text, Texts};
@@ -51,9 +51,10 @@ fn run(
     alloc: Global,
     words: &[Text],
     files: &str,
-    items: Items,
+    items: &str,
     fails: &str,
 ) -> Result<Ran, CaseError> {
+    let items = items_of(alloc, items)?;
     let mut tree = tree_of(alloc, files_of(alloc, files)?, fails)?;
     let store = MemStore::new(alloc, items, fails_of(alloc, fails, "store")?)?;
     run_over(alloc, words, &mut tree, store, fails)
@@ -88,8 +89,7 @@ pub(crate) fn answer_run(
     out: &mut Vec<u8>,
 ) -> Result<(), CaseError> {
     let words = words_of(alloc, words)?;
-    let items = items_of(alloc, store)?;
-    let mut ran = run(alloc, words.as_slice(), files, items, fails)?;
+    let mut ran = run(alloc, words.as_slice(), files, store, fails)?;
     Ok(push_ended(alloc, &mut ran, out)?)
 }
 
@@ -114,7 +114,6 @@ pub(crate) fn answer_stored(
     out: &mut Vec<u8>,
 ) -> Result<(), CaseError> {
     let words = words_of(alloc, words)?;
-    let items = items_of(alloc, "")?;
-    let mut ran = run(alloc, words.as_slice(), files, items, "")?;
+    let mut ran = run(alloc, words.as_slice(), files, "", "")?;
     push_stored(alloc, &mut ran.store, name, out)
 }
