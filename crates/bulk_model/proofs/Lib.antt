@@ -2,3 +2,4 @@ pub mod PlanEdges
 mod Setbacks
 pub mod Marks
 pub mod FileNames
+pub mod Digits

@@ -10,7 +10,8 @@ use Rattle.std.specs.Ordering.{nat_cmp, is_lt, ordering_then}
 use Rattle.bulk_model.specs.declared.depend.Depend.{Depend}
 use Rattle.bulk_model.specs.declared.depend.DepKind.{DepKind}
 use Rattle.bulk_model.specs.declared.depend.DepKind.TheVariants.{Pkg, Fetch, Extract, Patch, Build, Lib, Run}
-use Rattle.bulk_model.specs.Views.{JobView, PackageView}
+use Rattle.bulk_model.specs.declared.depend.Recorded.{Recorded}
+use Rattle.bulk_model.specs.Views.{JobView, PackageView, need_of}
 
 -- the place of a kind in the order of the dependency variables
 abbrev pub kind_number : DepKind → ℕ
@@ -51,6 +52,10 @@ pub record IsDependList (depends : List Depend) : Type 0 where
   pub nodes : AllByRecursion (λ d. IsNode d.node) depends
   pub names : AllByRecursion (λ d. IsPackageName d.name) depends
 
+-- the same of what a package records of them
+abbrev pub IsRecordedList : List Recorded → Type 0
+IsRecordedList depends = IsDependList (map need_of depends)
+
 pub record IsJob (job : JobView) : Type 0 where
   pub name : IsPackageName job.name
   pub origin : IsOrigin job.origin
@@ -64,5 +69,5 @@ pub record IsPackage (p : PackageView) : Type 0 where
   pub origin : IsOrigin p.origin
   pub flavor : IfSome p.flavor (λ f. IsTrue (is_flavor f))
   pub options : IsOptionList p.options
-  pub depends : IsDependList p.depends
+  pub depends : IsRecordedList p.depends
   pub files : IsFileList 1018 p.files

@@ -1,29 +1,27 @@
 -- What kept packages and results have to do with their plan.
-use Rattle.std.specs.Prelude.{◌≡◌, ℕ, Bool, true, false, not, ◌&&◌, ◌||◌, ◌<◌, List, length, slice_index_or, Option, Some, None, IfSome, IsTrue}
+use Rattle.std.specs.Prelude.{◌≡◌, ℕ, Bool, true, false, not, ◌||◌, ◌<◌, List, length, map, slice_index_or, Option, Some, None, IfSome}
 use Rattle.std.specs.List.{list_all, list_any}
 use Rattle.bulk_model.specs.declared.outcome.Outcome.{Outcome}
 use Rattle.bulk_model.specs.declared.outcome.Outcome.TheVariants.{Built as MadePackage, Failed as FailedBuild}
 use Rattle.bulk_model.specs.declared.plan.Kept.{Kept as KeptPackages}
 use Rattle.bulk_model.specs.declared.results.Status.{Status}
 use Rattle.bulk_model.specs.declared.results.Status.TheVariants.{Kept, Built, Failed, Ignored, Skipped}
-use Rattle.bulk_model.specs.Views.{JobView, PackageView}
-use Rattle.bulk_model.specs.PlanView.{PlanView, nodes, depends, is_ignored}
-use Rattle.bulk_model.specs.Results.{kept_at, is_kept, is_good, no_job}
+use Rattle.bulk_model.specs.Views.{JobView, PackageView, need_of}
+use Rattle.bulk_model.specs.PlanView.{PlanView, count, depends, is_ignored, job_at}
+use Rattle.bulk_model.specs.Results.{kept_at, is_kept, is_good}
 
--- the package was made as the job says: its fields are the job's
-pub record HasFieldsOf (job : JobView) (p : PackageView) : Type 0 where
+-- the package is one that a job may keep: of its name and options, and the kinds, nodes and names of its dependencies
+pub record MayKeep (job : JobView) (p : PackageView) : Type 0 where
   pub name : p.name ≡ job.name
-  pub origin : p.origin ≡ job.origin
-  pub flavor : p.flavor ≡ job.flavor
   pub options : p.options ≡ job.options
-  pub depends : p.depends ≡ job.depends
+  pub depends : map need_of p.depends ≡ job.depends
 
--- one place per node, no kept node ignored, all dependencies of a kept node kept, each package as its job says
+-- one place per node; no kept node is ignored, all its dependencies are kept, and its package is one that its job may keep
 pub record FitsKept (plan : PlanView) (kept : KeptPackages) : Type 0 where
-  pub places : length kept.packages ≡ length plan.jobs
-  pub allowed : IsTrue (list_all (λ n. not (is_kept kept n && is_ignored plan n)) (nodes plan))
-  pub closed : IsTrue (list_all (λ n. not (is_kept kept n) || list_all (is_kept kept) (depends plan n)) (nodes plan))
-  pub fields : (n : ℕ) → n < length plan.jobs → IfSome (kept_at kept n) (HasFieldsOf (slice_index_or plan.jobs n no_job))
+  pub places : length kept.packages ≡ count plan
+  pub allowed : (n : ℕ) → n < count plan → is_kept kept n ≡ true → is_ignored plan n ≡ false
+  pub closed : (n : ℕ) → n < count plan → is_kept kept n ≡ true → list_all (is_kept kept) (depends plan n) ≡ true
+  pub fields : (n : ℕ) → n < count plan → IfSome (kept_at kept n) (MayKeep (job_at plan n))
 
 abbrev pub status_in : List Status → ℕ → Status
 status_in statuses n = slice_index_or statuses n Skipped
@@ -42,11 +40,15 @@ is_skipped (Failed phase code) = false
 is_skipped Ignored = false
 is_skipped Skipped = true
 
+-- a node has a dependency without a package
+abbrev pub has_setback : PlanView → List Status → ℕ → Bool
+has_setback plan statuses n = list_any (λ d. not (is_good (status_in statuses d))) (depends plan n)
+
 -- one place per node, only what the plan ignores is ignored, and what is skipped has a dependency without a package
 pub record FitsResults (plan : PlanView) (statuses : List Status) : Type 0 where
-  pub places : length statuses ≡ length plan.jobs
-  pub ignored : IsTrue (list_all (λ n. not (is_ignored_status (status_in statuses n)) || is_ignored plan n) (nodes plan))
-  pub skipped : IsTrue (list_all (λ n. not (is_skipped (status_in statuses n)) || list_any (λ d. not (is_good (status_in statuses d))) (depends plan n)) (nodes plan))
+  pub places : length statuses ≡ count plan
+  pub ignored : (n : ℕ) → n < count plan → is_ignored_status (status_in statuses n) ≡ true → is_ignored plan n ≡ true
+  pub skipped : (n : ℕ) → n < count plan → is_skipped (status_in statuses n) ≡ true → has_setback plan statuses n ≡ true
 
 abbrev pub outcome_at : List (Option Outcome) → ℕ → Option Outcome
 outcome_at outcomes n = slice_index_or outcomes n None
@@ -62,6 +64,6 @@ is_there kept outcomes n = is_kept kept n || has_built (outcome_at outcomes n)
 
 -- one place per node; outcomes stand only at nodes that were to be built and whose dependencies were there
 pub record FitsPartial (plan : PlanView) (kept : KeptPackages) (outcomes : List (Option Outcome)) : Type 0 where
-  pub places : length outcomes ≡ length plan.jobs
+  pub places : length outcomes ≡ count plan
   pub own : (n : ℕ) (outcome : Outcome) → outcome_at outcomes n ≡ Some outcome → (is_kept kept n ≡ false) × (is_ignored plan n ≡ false)
   pub behind : (n : ℕ) (outcome : Outcome) → outcome_at outcomes n ≡ Some outcome → list_all (is_there kept outcomes) (depends plan n) ≡ true

@@ -2,21 +2,18 @@
 use Rattle.std.specs.Prelude.{ℕ, Bool, true, false, List, [], ◌++◌, length, map, codes, slice_index_or, Option, Some, None, unwrap_or, if◌then◌else◌}
 use Rattle.std.specs.List.{flat_map, filter_map, list_any}
 use Rattle.std.specs.Fmt.{decimal}
-use Rattle.bulk_base.specs.Names.{node_of}
 use Rattle.bulk_model.specs.declared.outcome.Phase.{Phase}
 use Rattle.bulk_model.specs.declared.outcome.Phase.TheVariants.{Depends, Extract, Patch, Configure, Build, Stage, Package}
 use Rattle.bulk_model.specs.declared.reason.Reason.{Reason}
-use Rattle.bulk_model.specs.declared.reason.Reason.TheVariants.{Damaged, Asked, NoPort, Ignored as IgnoredPort, NewName, NewOptions, NewDepends, MissingDepend}
+use Rattle.bulk_model.specs.declared.reason.Reason.TheVariants.{Damaged, OldRecord, Asked, NoPort, Ignored as IgnoredPort, NewName, NewOptions, NewDepends, NewRecipe, MissingDepend}
 use Rattle.bulk_model.specs.declared.reason.Stale.{Stale}
 use Rattle.bulk_model.specs.declared.reason.Notice.{Notice}
 use Rattle.bulk_model.specs.declared.results.Status.{Status}
 use Rattle.bulk_model.specs.declared.results.Status.TheVariants.{Kept, Built, Failed, Ignored, Skipped}
-use Rattle.bulk_model.specs.Views.{JobView}
-use Rattle.bulk_model.specs.PlanView.{PlanView, nodes}
-use Rattle.bulk_model.specs.Results.{no_job}
+use Rattle.bulk_model.specs.PlanView.{PlanView, count, nodes, job_at, node_at}
 use Rattle.bulk_model.specs.Fit.{status_in}
 use Rattle.bulk_model.specs.Cause.{cause}
-use Rattle.bulk_model.specs.Spelling.{line}
+use Rattle.bulk_model.specs.Lines.{line}
 
 abbrev pub phase_word : Phase → List ℕ
 phase_word Depends = codes "depends"
@@ -29,22 +26,18 @@ phase_word Package = codes "package"
 
 abbrev pub reason_word : Reason → List ℕ
 reason_word Damaged = codes "damaged"
+reason_word OldRecord = codes "old-record"
 reason_word Asked = codes "asked"
 reason_word NoPort = codes "no-port"
 reason_word IgnoredPort = codes "ignored"
 reason_word NewName = codes "new-name"
 reason_word NewOptions = codes "new-options"
 reason_word NewDepends = codes "new-depends"
+reason_word NewRecipe = codes "new-recipe"
 reason_word MissingDepend = codes "missing-depend"
 
 abbrev pub two_words : List ℕ → List ℕ → List ℕ
 two_words a b = a ++ codes " " ++ b
-
-abbrev pub job_at : PlanView → ℕ → JobView
-job_at plan n = slice_index_or plan.jobs n no_job
-
-abbrev pub node_at : PlanView → ℕ → List ℕ
-node_at plan n = node_of (job_at plan n).origin (job_at plan n).flavor
 
 -- a node with its package's name
 abbrev pub node_words : PlanView → ℕ → List ℕ
@@ -102,6 +95,9 @@ notice_line notice = line (codes "moved " ++ two_words notice.word notice.name)
 abbrev pub stale_entry : Stale → List ℕ
 stale_entry stale = two_words stale.file (reason_word stale.reason)
 
+abbrev pub total_line : PlanView → List ℕ
+total_line plan = line (codes "total " ++ decimal (count plan))
+
 -- what a run prints
 abbrev pub lists : PlanView → List Status → List Stale → List Notice → List ℕ
 lists plan statuses deleted notices =
@@ -112,7 +108,7 @@ lists plan statuses deleted notices =
     ++ listed (codes "failed") (entries (failed_entry plan) plan statuses)
     ++ listed (codes "ignored") (entries (ignored_entry plan) plan statuses)
     ++ listed (codes "skipped") (entries (skipped_entry plan statuses) plan statuses)
-    ++ line (codes "total " ++ decimal (length plan.jobs))
+    ++ total_line plan
 
 abbrev pub is_setback : Status → Bool
 is_setback (Kept p) = false

@@ -1,6 +1,6 @@
 -- What comes of each node of a plan, by recursion over the dependencies (poudriere-bulk(8): what depends on a port
 -- that failed or is ignored is skipped).
-use Rattle.std.specs.Prelude.{ℕ, zero, suc, Bool, true, false, List, [], length, map, slice_index_or, Option, Some, None, is_some, unwrap_or, if◌then◌else◌}
+use Rattle.std.specs.Prelude.{ℕ, zero, suc, Bool, true, false, List, length, map, slice_index_or, Option, Some, None, is_some, unwrap_or, if◌then◌else◌}
 use Rattle.std.specs.List.{list_all, filter_map}
 use Rattle.std.specs.Option.{option_map_or}
 use Rattle.bulk_model.specs.declared.outcome.Outcome.{Outcome}
@@ -9,8 +9,8 @@ use Rattle.bulk_model.specs.declared.outcome.Phase.TheVariants.{Depends as Depen
 use Rattle.bulk_model.specs.declared.results.Status.{Status}
 use Rattle.bulk_model.specs.declared.results.Status.TheVariants.{Kept, Built, Failed, Ignored, Skipped}
 use Rattle.bulk_model.specs.declared.plan.Kept.{Kept as KeptPackages}
-use Rattle.bulk_model.specs.Views.{JobView, PackageView}
-use Rattle.bulk_model.specs.PlanView.{PlanView, nodes, depends, is_ignored}
+use Rattle.bulk_model.specs.Views.{PackageView}
+use Rattle.bulk_model.specs.PlanView.{PlanView, nodes, depends, is_ignored, job_at}
 use Rattle.bulk_model.specs.Installs.{installs}
 use Rattle.bulk_model.specs.Bake.{Runs, bake}
 
@@ -68,12 +68,9 @@ status_at bakes plan kept n = status_up_to bakes plan kept (length plan.jobs) n
 abbrev pub statuses_of : Bakes → PlanView → KeptPackages → List Status
 statuses_of bakes plan kept = map (status_at bakes plan kept) (nodes plan)
 
-abbrev pub no_job : JobView
-no_job = record { name = []; origin = []; flavor = None; options = []; depends = []; steps = record { extract = []; patch = []; configure = []; build = []; stage = [] }; files = [] }
-
 -- where rooms tell what commands do
 abbrev pub bakes_by : Runs → PlanView → Bakes
-bakes_by runs plan n packages = bake runs plan.base (slice_index_or plan.jobs n no_job) packages
+bakes_by runs plan n packages = bake runs plan.base (job_at plan n) packages
 
 -- what came of each node where rooms tell
 abbrev pub res : Runs → PlanView → KeptPackages → List Status

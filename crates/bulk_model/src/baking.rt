@@ -1,10 +1,9 @@
 // What builds jobs.
-ghost use Rattle.std.specs.Prelude.{◌≡◌, ℕ, List, [], ◌∷◌, ◌++◌, IsTrue, IfOk, OnOk, OnErr};
+ghost use Rattle.std.specs.Prelude.{◌≡◌, ℕ, List, [], ◌∷◌, ◌++◌, IfOk, OnOk, OnErr};
 ghost use Rattle.outside.specs.Faults.{HasCause};
 ghost use Rattle.outside.specs.Outcomes.{GrewByAtMost};
 ghost use Rattle.bulk_model.specs.PlanFacts.{IsBase};
-ghost use Rattle.bulk_model.specs.Bake.{bake};
-ghost use Rattle.bulk_model.specs.Baked.{IsOutcomeOf};
+ghost use Rattle.bulk_model.specs.Baked.{IsBuildOf};
 
 use crate::job::Job;
 use crate::outcome::Outcome;
@@ -25,7 +24,9 @@ pub trait Baking {
     /// How often the rooms that are used have failed.
     ghost faults: { Self → ℕ };
 
-    /// Builds a job over a base root and the packages that are installed for it.
+    /// Builds a job over a base root and the packages that are installed for it: a failure, or a package with the job's
+    /// name, origin, flavor, options, recipe and dependencies, these with the digests of the packages' records, and of a
+    /// weight of at most 524,288. Fault only where the rooms' count of failures rose.
     fn bake(
         &mut self,
         alloc: Global,
@@ -34,8 +35,7 @@ pub trait Baking {
         packages: &[Shared<Package>],
     ) -> Result<Outcome, Outer>
         requires { IsBase base.now }
-        ensures told { IsTrue Self.Ways.tells → IfOk result (λ outcome. outcome ≡ bake Self.Ways.runs base.now job.now packages.now) }
-        ensures fields { IfOk result (IsOutcomeOf job.now) }
+        ensures built { IfOk result (IsBuildOf Self.Ways.tells Self.Ways.runs base.now job.now packages.now) }
         ensures begun { OnOk result (begun self.new ≡ begun self.old ++ job.now.name ∷ []) }
         ensures begun_err { OnErr result (GrewByAtMost job.now.name (begun self.old) (begun self.new)) }
         ensures cause { HasCause (faults self.old) (faults self.new) result };

@@ -2,6 +2,7 @@
 ghost use Rattle.std.specs.Prelude.{◌≡◌};
 ghost use Rattle.bulk_model.specs.Facts.{kind_number};
 
+use crate::digest::Digest;
 use bulk_base::{Sequence, Text};
 
 /// What a dependency is needed for, in the order in which the variables are read (Porter's Handbook, "Dependencies").
@@ -53,3 +54,19 @@ pub struct Depend {
 
 /// A list of dependencies.
 pub type Depends = Sequence<Depend>;
+
+/// A dependency as a package records it: with the digest of the record of the package that it was built with.
+#[derive(Debug, Drop)]
+pub struct Recorded {
+    /// What the node was needed for.
+    pub kind: DepKind,
+    /// The node: an origin, or an origin, `@` and a flavor.
+    pub node: Text,
+    /// The name of the node's package.
+    pub name: Text,
+    /// The digest of that package's record, by which it is meant; 32 zero bytes where there was none.
+    pub digest: Digest,
+}
+
+/// A list of recorded dependencies.
+pub type Recordeds = Sequence<Recorded>;

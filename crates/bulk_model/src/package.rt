@@ -2,7 +2,8 @@
 ghost use Rattle.std.specs.Prelude.{◌≡◌, ◌-◌, ◌^◌, min};
 ghost use Rattle.bulk_model.specs.Weight.{weight_of};
 
-use crate::depend::Depends;
+use crate::depend::Recordeds;
+use crate::digest::Digest;
 use crate::shared::Shared;
 use bulk_base::{Files, Sequence, Switches, Text};
 use std::marker::Model;
@@ -19,10 +20,12 @@ pub struct Package {
     pub origin: Text,
     /// The flavor, where the port has flavors.
     pub flavor: Option<Text>,
+    /// The digest of the recipe that it was built by.
+    pub recipe: Digest,
     /// The state of each option that the port defines.
     pub options: Switches,
-    /// What the node depended on.
-    pub depends: Depends,
+    /// What the node depended on, each with the record that it was built with.
+    pub depends: Recordeds,
     /// The files.
     pub files: Files,
 }
@@ -37,9 +40,9 @@ impl Model for Package {
 
     ghost use Rattle.bulk_model.specs.Facts.{IsPackage};
 
-    ghost view = { λ p. record { name = p.name; origin = p.origin; flavor = p.flavor; options = p.options; depends = p.depends; files = p.files } };
+    ghost view = { λ p. record { name = p.name; origin = p.origin; flavor = p.flavor; recipe = p.recipe; options = p.options; depends = p.depends; files = p.files } };
 
-    ghost invariant = { λ p. IsPackage (record { name = p.name; origin = p.origin; flavor = p.flavor; options = p.options; depends = p.depends; files = p.files }) };
+    ghost invariant = { λ p. IsPackage (record { name = p.name; origin = p.origin; flavor = p.flavor; recipe = p.recipe; options = p.options; depends = p.depends; files = p.files }) };
 }
 
 /// The sum over a package's files of the length of the contents, the length of the path, and 16; the largest 64-bit

@@ -1,5 +1,6 @@
 // What is to be built, in which order it may be, and what is kept.
 use crate::depend::DepKind;
+use crate::flags::Flags;
 use crate::job::Jobs;
 use crate::package::Package;
 use crate::shared::Shared;
@@ -33,7 +34,7 @@ pub type MaybePackages = Sequence<Option<Shared<Package>>>;
 /// The needed nodes, numbered from 0 in the byte order of their names.
 ///
 /// Contracts see the record of its fields. Of every plan it holds that it has fewer than 4,294,967,296 jobs and as many
-/// edge lists and reasons, that targets and wanted nodes are nodes, that ignored nodes have no edges, that there is no
+/// edge lists, reasons and marks, that targets and wanted nodes are nodes, that ignored nodes have no edges, that there is no
 /// loop, that package names are distinct, and that the base root leaves `local/`, `work/` and `stage/` free.
 #[derive(Debug, Drop)]
 pub struct Plan {
@@ -47,6 +48,8 @@ pub struct Plan {
     pub wanted: Numbers,
     /// The base root, which stands in every room.
     pub base: Files,
+    /// The nodes that are to be built before others.
+    pub boosted: Flags,
 }
 
 impl Model for Plan {
@@ -56,9 +59,9 @@ impl Model for Plan {
 
     ghost use Rattle.bulk_model.specs.PlanFacts.{IsPlan};
 
-    ghost view = { λ p. record { jobs = p.jobs; edges = p.edges; ignored = p.ignored; wanted = p.wanted; base = p.base } };
+    ghost view = { λ p. record { jobs = p.jobs; edges = p.edges; ignored = p.ignored; wanted = p.wanted; base = p.base; boosted = p.boosted } };
 
-    ghost invariant = { λ p. IsPlan (record { jobs = p.jobs; edges = p.edges; ignored = p.ignored; wanted = p.wanted; base = p.base }) };
+    ghost invariant = { λ p. IsPlan (record { jobs = p.jobs; edges = p.edges; ignored = p.ignored; wanted = p.wanted; base = p.base; boosted = p.boosted }) };
 }
 
 /// The package that is kept at each node that has one.

@@ -1,4 +1,4 @@
-// Why packages are deleted, what a word meant, and which limit was passed.
+// Why packages are deleted, and what a word meant.
 use bulk_base::{Sequence, Text};
 
 /// Why a package is deleted from the store.
@@ -6,6 +6,8 @@ use bulk_base::{Sequence, Text};
 pub enum Reason {
     /// The file is no package record, or that of another package.
     Damaged,
+    /// The file is a record of version 1.
+    OldRecord,
     /// The command asked for it.
     Asked,
     /// The tree has no such port.
@@ -18,6 +20,8 @@ pub enum Reason {
     NewOptions,
     /// The port's dependencies are other ones now.
     NewDepends,
+    /// The port's recipe is another one now.
+    NewRecipe,
     /// A package that it depends on is not there.
     MissingDepend,
 }
@@ -45,24 +49,3 @@ pub struct Notice {
 
 /// A list of notices.
 pub type Notices = Sequence<Notice>;
-
-/// Which limit was passed.
-#[derive(Clone, Copy, Debug, PartialEq, Eq)]
-pub enum Which {
-    /// Bytes of one file read from the tree.
-    FileBytes,
-    /// Options that a port defines.
-    Options,
-    /// Distinct pairs of kind and target that a node names.
-    Depends,
-    /// Nodes of the tree.
-    Nodes,
-    /// Needed nodes.
-    PlanNodes,
-    /// Bytes of the files of needed ports and of the base root.
-    JobBytes,
-    /// Package files in the store.
-    StoreNames,
-    /// Bytes of the package files read.
-    StoreBytes,
-}

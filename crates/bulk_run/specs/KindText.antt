@@ -7,8 +7,8 @@ use Rattle.conf_file.specs.declared.fault.ConfKind.{ConfKind}
 use Rattle.conf_file.specs.declared.fault.ConfKind.TheVariants as conf
 use Rattle.tree_index.specs.declared.fault.PortKind.{PortKind}
 use Rattle.tree_index.specs.declared.fault.PortKind.TheVariants.{Line, Undefined, Group, Prevented, BadFlavor, Missing, BadValue, BadDepend, Target, Absent, BadMoved}
-use Rattle.bulk_model.specs.declared.reason.Which.{Which}
-use Rattle.bulk_model.specs.declared.reason.Which.TheVariants as limits
+use Rattle.bulk_model.specs.declared.which.Which.{Which}
+use Rattle.bulk_model.specs.declared.which.Which.TheVariants as limits
 
 -- a line that is outside the grammar of variable files
 abbrev pub line_text : LineKind → List ℕ

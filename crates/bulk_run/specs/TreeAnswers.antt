@@ -2,8 +2,8 @@
 use Rattle.std.specs.Prelude.{ℕ, List}
 use Rattle.conf_file.specs.declared.fault.ConfError.{ConfError}
 use Rattle.conf_file.specs.declared.fault.ConfError.TheVariants as conf
-use Rattle.bulk_model.specs.declared.reason.Which.{Which}
-use Rattle.bulk_model.specs.declared.reason.Which.TheVariants.{FileBytes}
+use Rattle.bulk_model.specs.declared.which.Which.{Which}
+use Rattle.bulk_model.specs.declared.which.Which.TheVariants.{FileBytes}
 use Rattle.tree_index.specs.Places.{moved_file}
 use Rattle.tree_index.specs.declared.fault.IndexError.{IndexError}
 use Rattle.tree_index.specs.declared.fault.IndexError.TheVariants as index

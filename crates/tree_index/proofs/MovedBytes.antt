@@ -6,7 +6,7 @@ use Rattle.std.specs.declared.result.Result.TheVariants.{Ok, Err}
 use Rattle.std.proofs.lemmas.Bool.{cases_lt}
 use Rattle.std.proofs.lemmas.Bool.Decides.{nat_tests}
 use Rattle.std.proofs.lemmas.List.{take_all, length-take}
-use Rattle.bulk_model.specs.declared.reason.Which.TheVariants.{FileBytes}
+use Rattle.bulk_model.specs.declared.which.Which.TheVariants.{FileBytes}
 use Rattle.moved_list.specs.Moved.{moved_of}
 use Rattle.tree_index.specs.declared.fault.IndexError.TheVariants.{Limit}
 use Rattle.tree_index.specs.Faults.{moved_fault, refused_as}

@@ -4,7 +4,7 @@ use Rattle.std.specs.declared.result.Result.{Result}
 use Rattle.std.specs.declared.result.Result.TheVariants.{Ok, Err}
 use Rattle.outside.specs.declared.outer.Outer.{Outer}
 use Rattle.outside.specs.declared.outer.Outer.TheVariants as outer
-use Rattle.bulk_model.specs.declared.reason.Which.TheVariants as which
+use Rattle.bulk_model.specs.declared.which.Which.TheVariants as which
 use Rattle.port_vars.specs.declared.fault.VarsError.{VarsError}
 use Rattle.port_vars.specs.declared.fault.VarsError.TheVariants as vars
 use Rattle.option_set.specs.declared.fault.OptionError.{OptionError}

@@ -9,7 +9,7 @@ use Rattle.std.specs.declared.result.Result.TheVariants.{Ok, Err}
 use Rattle.std.specs.Ordering.{nat_cmp}
 use Rattle.std.specs.Cmp.Lexicographic.{slice_cmp}
 use Rattle.std.specs.FinMap as finite
-use Rattle.bulk_model.specs.declared.reason.Which.TheVariants.{Nodes, FileBytes}
+use Rattle.bulk_model.specs.declared.which.Which.TheVariants.{Nodes, FileBytes}
 use Rattle.outside.specs.Contents.{Contents}
 use Rattle.port_vars.specs.Assignment.{◌>>=◌}
 use Rattle.conf_file.specs.declared.make.MakeConf.{MakeConf}
