@@ -3,3 +3,5 @@ mod Setbacks
 pub mod Marks
 pub mod FileNames
 pub mod Digits
+pub mod JobFields
+pub mod PlanTests

@@ -1,10 +1,10 @@
 -- The edges of a plan go to its nodes.
-use Rattle.std.proofs.Common.{◌≡◌, ℕ, ◌<◌, List, [], length, get_or, ap, sym, subst, ◌∙◌, arith}
+use Rattle.std.proofs.Common.{◌≡◌, ℕ, ◌<◌, List, [], length, get_or, ap, subst, ◌∙◌, arith}
 use Rattle.std.specs.List.{All}
 use Rattle.std.proofs.lemmas.List.{get_or_read, length-map}
 use Rattle.std.proofs.Math.ListN.{get_or-map}
 use Rattle.bulk_model.specs.declared.plan.Edge.{Edge}
-use Rattle.bulk_model.specs.PlanView.{PlanView, count, depends, edges_from}
+use Rattle.bulk_model.specs.PlanView.{PlanView, depends, edges_from}
 use Rattle.bulk_model.specs.PlanFacts.{IsPlan}
 
 abbrev target : Edge → ℕ

@@ -1,11 +1,7 @@
 -- The least target without a package, edge by edge, and the way down to a cause, step by step.
-use Rattle.std.proofs.Common.{◌≡◌, ℕ, suc, ◌+◌, ◌-◌, ◌<◌, Bool, true, false, not, List, [], ◌∷◌, ◌++◌, length, get_or, take, refl, ap, sym, ◌∙◌, arith, cond}
-use Rattle.std.specs.Prelude.{map, filter, min, Option, Some}
-use Rattle.std.specs.List.{reduce}
+use Rattle.std.proofs.Common.{◌≡◌, ℕ, suc, ◌+◌, ◌-◌, ◌<◌, true, false, not, List, length, ap, sym, ◌∙◌, arith, cond}
+use Rattle.std.specs.Prelude.{map, Option, Some}
 use Rattle.std.specs.Option.{option_map_or}
-use Rattle.std.proofs.lemmas.List.{take_more, map-append, append-nil}
-use Rattle.std.proofs.lemmas.List.Elements.{filter-append}
-use Rattle.std.proofs.lemmas.List.Sums.{fold-append}
 use Rattle.bulk_base.specs.Least.{least_passing}
 use Rattle.bulk_model.specs.declared.plan.Edge.{Edge}
 use Rattle.bulk_model.specs.declared.results.Status.{Status}

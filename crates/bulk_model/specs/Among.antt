@@ -1,7 +1,7 @@
 -- What is installed for a package among others, by what packages record of their dependencies.
-use Rattle.std.specs.Prelude.{Bool, ◌&&◌, ◌≡◌, List, length, filter, bytes_eq, IsTrue, Contains}
+use Rattle.std.specs.Prelude.{Bool, ◌&&◌, List, length, filter, bytes_eq, IsTrue, Contains}
 use Rattle.std.specs.List.{list_any}
-use Rattle.std.specs.Ordering.{nat_cmp, ordering_then, is_lt}
+use Rattle.std.specs.Ordering.{nat_cmp, ordering_then}
 use Rattle.std.specs.Cmp.Lexicographic.{slice_cmp}
 use Rattle.std.specs.List.Sorted.{IsStrictlySortedBy}
 use Rattle.std.specs.declared.cmp.Ordering.{Ordering}

@@ -7,10 +7,10 @@ use Rattle.std.proofs.lemmas.Bool.{lt-ltb, ltb-true, ltb-false}
 use Rattle.bulk_base.specs.declared.file.FileItem.{FileItem}
 use Rattle.bulk_model.specs.Views.{JobView}
 use Rattle.bulk_model.specs.Weight.{file_weight, weight_of, most_weight}
-use Rattle.bulk_model.specs.Bake.{packed, package_of}
+use Rattle.bulk_model.specs.Bake.{package_of}
 use Rattle.bulk_model.specs.declared.outcome.Outcome.TheVariants.{Built, Failed}
 use Rattle.bulk_model.specs.declared.outcome.Phase.TheVariants.{Package}
-use Rattle.bulk_run.specs.RoomBuild.{cut_file}
+use Rattle.bulk_run.specs.RoomBuild.{cut_file, packed_alone}
 
 pub weight_of-cut : (most : ℕ) (files : List FileItem) → weight_of (map (cut_file most) files) ≤ weight_of files
 weight_of-cut most [] = omega arith
@@ -27,11 +27,11 @@ cut_none most (f ∷ files) l =
     λ k. record { path = f.path; bytes = whole k } ∷ rest k
 
 -- so the package is the same
-pub packed-cut : (most : ℕ) (job : JobView) (files : List FileItem) → most_weight < most → packed job (map (cut_file most) files) ≡ packed job files
+pub packed-cut : (most : ℕ) (job : JobView) (files : List FileItem) → most_weight < most → packed_alone job (map (cut_file most) files) ≡ packed_alone job files
 packed-cut most job files l =
-    elim (nat_lt most_weight (weight_of (map (cut_file most) files))) as (λ b. nat_lt most_weight (weight_of (map (cut_file most) files)) ≡ b → cond b (Failed Package 2) (Built (package_of job (map (cut_file most) files))) ≡ packed job files) [
-      | true ↦ λ e. ap (λ b. cond b (Failed Package 2) (Built (package_of job files))) (sym (lt-ltb most_weight (weight_of files) (omega (arith, ltb-true most_weight (weight_of (map (cut_file most) files)) e, weight_of-cut most files))))
+    elim (nat_lt most_weight (weight_of (map (cut_file most) files))) as (λ b. nat_lt most_weight (weight_of (map (cut_file most) files)) ≡ b → cond b (Failed Package 2) (Built (package_of [] job [] (map (cut_file most) files))) ≡ packed_alone job files) [
+      | true ↦ λ e. ap (λ b. cond b (Failed Package 2) (Built (package_of [] job [] files))) (sym (lt-ltb most_weight (weight_of files) (omega (arith, ltb-true most_weight (weight_of (map (cut_file most) files)) e, weight_of-cut most files))))
       | false ↦ λ e.
-          ap (λ b. cond b (Failed Package 2) (Built (package_of job (map (cut_file most) files)))) (sym e)
-          ∙ ap (packed job) (cut_none most files (omega (arith, ltb-false most_weight (weight_of (map (cut_file most) files)) e)))
+          ap (λ b. cond b (Failed Package 2) (Built (package_of [] job [] (map (cut_file most) files)))) (sym e)
+          ∙ ap (packed_alone job) (cut_none most files (omega (arith, ltb-false most_weight (weight_of (map (cut_file most) files)) e)))
     ] refl

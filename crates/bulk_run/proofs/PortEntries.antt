@@ -15,7 +15,8 @@ use Rattle.bulk_model.specs.declared.results.Status.{Status}
 use Rattle.bulk_model.specs.declared.results.Status.TheVariants.{Kept, Built, Failed, Ignored, Skipped}
 use Rattle.bulk_model.specs.Fit.{status_in}
 use Rattle.bulk_model.specs.Lists.{entries, is_setback, kept_entry, built_entry, failed_entry, ignored_entry, skipped_entry, two_words, phase_word}
-use Rattle.bulk_model.specs.Results.{status_of_outcome, no_job}
+use Rattle.bulk_model.specs.PlanView.{no_job}
+use Rattle.bulk_model.specs.Results.{status_of_outcome}
 use Rattle.bulk_model.specs.Views.{JobView}
 use Rattle.bulk_run.specs.PortsPlan.{plan_of}
 

@@ -15,7 +15,7 @@ use Rattle.bulk_model.specs.Bake.{Runs}
 use Rattle.bulk_model.specs.Views.{JobView}
 use Rattle.bulk_run.specs.Ending.{BeganFirst}
 use Rattle.bulk_run.specs.PortsWanted.{names_of}
-use Rattle.bulk_run.specs.PortsRun.{IsBuildOf, AreBuildsOf, HasStoredFirst, KeepsFirst}
+use Rattle.bulk_run.specs.PortsRun.{IsBuildAlone, AreBuildsOf, HasStoredFirst, KeepsFirst}
 use Rattle.bulk_run.specs.Report.{stored, stored_all}
 
 pub in_error : {X E : Type 0} (result : Result X E) (P : Type 0) → P → OnErr result P
@@ -27,10 +27,10 @@ one_more_job jobs i job l e = take_more jobs i job l ∙ ap (λ j. take i jobs +
 
 -- one more build
 pub builds_more : (tells : Bool) (runs : Runs) (jobs : List JobView) (i : ℕ) (job : JobView) (outcomes more : List Outcome) (outcome : Outcome) → i < length jobs → job ≡ get_or jobs i job
-    → AreBuildsOf tells runs (take i jobs) outcomes → IsBuildOf tells runs job outcome → more ≡ outcomes ++ outcome ∷ [] → AreBuildsOf tells runs (take (i + 1) jobs) more
+    → AreBuildsOf tells runs (take i jobs) outcomes → IsBuildAlone tells runs job outcome → more ≡ outcomes ++ outcome ∷ [] → AreBuildsOf tells runs (take (i + 1) jobs) more
 builds_more tells runs jobs i job outcomes more outcome l e h b m =
     subst (λ js. AreBuildsOf tells runs js more) (sym (one_more_job jobs i job l e))
-    (subst (λ os. AreBuildsOf tells runs (take i jobs ++ job ∷ []) os) (sym m) (all_zipped_more (IsBuildOf tells runs) (take i jobs) outcomes job outcome h b))
+    (subst (λ os. AreBuildsOf tells runs (take i jobs ++ job ∷ []) os) (sym m) (all_zipped_more (IsBuildAlone tells runs) (take i jobs) outcomes job outcome h b))
 
 pub builds_of_all : (tells : Bool) (runs : Runs) (jobs : List JobView) (i : ℕ) (outcomes : List Outcome) → length jobs ≤ i → AreBuildsOf tells runs (take i jobs) outcomes → AreBuildsOf tells runs jobs outcomes
 builds_of_all tells runs jobs i outcomes l h = subst (λ js. AreBuildsOf tells runs js outcomes) (take_all i jobs l) h
@@ -105,7 +105,7 @@ has_stored_first tells runs jobs built outcomes kept before now b k h (count, n)
   count = count;
   stored = record {
     outcomes = take count outcomes;
-    builds = AllZip-take (IsBuildOf tells runs) jobs outcomes count (subst (λ js. AreBuildsOf tells runs js outcomes) b h);
+    builds = AllZip-take (IsBuildAlone tells runs) jobs outcomes count (subst (λ js. AreBuildsOf tells runs js outcomes) b h);
     content = n ∙ ap (λ os. stored_all (take count os) before) k;
   };
 }

@@ -8,7 +8,7 @@ use Rattle.bulk_model.specs.declared.outcome.Outcome.{Outcome}
 use Rattle.bulk_model.specs.declared.reason.Notice.{Notice}
 use Rattle.bulk_model.specs.Lists.{listed, notice_line}
 use Rattle.bulk_model.specs.Results.{status_of_outcome}
-use Rattle.bulk_model.specs.Spelling.{line}
+use Rattle.bulk_model.specs.Lines.{line}
 use Rattle.bulk_model.specs.Views.{JobView}
 use Rattle.bulk_run.specs.PortsPlan.{plan_of}
 use Rattle.bulk_run.specs.Report.{ports_text}

@@ -1,7 +1,7 @@
 -- What a run prints in place of its lists, and its exit status (docs/FORMATS.md, "Refusals").
 use Rattle.std.specs.Prelude.{ℕ, List, [], ◌++◌, codes}
 use Rattle.std.specs.Fmt.{decimal}
-use Rattle.bulk_model.specs.Spelling.{line}
+use Rattle.bulk_model.specs.Lines.{line}
 use Rattle.bulk_run.specs.declared.answer.Answer.{Answer}
 use Rattle.bulk_run.specs.declared.answer.Answer.TheVariants.{Done, Usage, Builders, BadConf, BadPort, DupName, Limit, NoOrigin, NoFlavor, Gone, MovedLoop, NotYet, TreeFault, StoreFault, RoomFault, SinkFault, NoMemory}
 use Rattle.bulk_run.specs.Kind.{Kind, kind_of, printed, bad_words, bad_tree, not_served, tree_failed, store_failed, room_failed, sink_failed, no_memory}

@@ -1,11 +1,11 @@
 -- What building some ports and storing their packages leave.
-use Rattle.std.specs.Prelude.{◌≡◌, ℕ, Bool, IsTrue, List, [], ◌++◌, take, Some}
+use Rattle.std.specs.Prelude.{◌≡◌, ℕ, Bool, List, [], ◌++◌, take, Some}
 use Rattle.std.specs.List.{AllZip}
 use Rattle.outside.specs.Contents.{Contents}
 use Rattle.bulk_model.specs.declared.outcome.Outcome.{Outcome}
 use Rattle.bulk_model.specs.declared.reason.Notice.{Notice}
-use Rattle.bulk_model.specs.Bake.{Runs, bake}
-use Rattle.bulk_model.specs.Baked.{IsOutcomeOf}
+use Rattle.bulk_model.specs.Bake.{Runs}
+use Rattle.bulk_model.specs.Baked.{IsBuildOf}
 use Rattle.bulk_model.specs.Views.{JobView}
 use Rattle.bulk_run.specs.PortsWanted.{PortsWanted, names_of}
 use Rattle.bulk_run.specs.Refusals.{wanted_ports}
@@ -17,15 +17,13 @@ pub record Reports (jobs : List JobView) (notices : List Notice) (outcomes : Lis
   pub text : report.text.items ≡ ports_text jobs notices outcomes
   pub status : report.status ≡ ports_status outcomes
 
--- what a build of a job may come to: a failure, or a package with the job's fields; where the rooms tell what commands
--- do, it is what the job's bake gives
-pub record IsBuildOf (tells : Bool) (runs : Runs) (job : JobView) (outcome : Outcome) : Type 0 where
-  pub fields : IsOutcomeOf job outcome
-  pub told : IsTrue tells → outcome ≡ bake runs [] job []
+-- what a build of a job may come to, over no base root and with nothing installed
+abbrev pub IsBuildAlone : Bool → Runs → JobView → Outcome → Type 0
+IsBuildAlone tells runs job outcome = IsBuildOf tells runs [] job [] outcome
 
 -- one outcome for each job, in their order, each that of the job's build
 abbrev pub AreBuildsOf : Bool → Runs → List JobView → List Outcome → Type 0
-AreBuildsOf tells runs jobs outcomes = AllZip (IsBuildOf tells runs) jobs outcomes
+AreBuildsOf tells runs jobs outcomes = AllZip (IsBuildAlone tells runs) jobs outcomes
 
 -- the store has what the builds of these jobs came to, and is else as it was
 pub record HasStored (tells : Bool) (runs : Runs) (jobs : List JobView) (before now : Contents) : Type 0 where

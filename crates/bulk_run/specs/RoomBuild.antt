@@ -1,5 +1,5 @@
 -- The parts of a build in a room: how its phases ended, and what is taken of the staged files.
-use Rattle.std.specs.Prelude.{ℕ, List, take, Option, Some, None}
+use Rattle.std.specs.Prelude.{ℕ, List, [], take, Option, Some, None}
 use Rattle.std.specs.Option.{option_map}
 use Rattle.bulk_base.specs.declared.file.FileItem.{FileItem}
 use Rattle.outside.specs.Contents.{Contents}
@@ -10,9 +10,13 @@ use Rattle.bulk_model.specs.declared.outcome.Outcome.{Outcome}
 use Rattle.bulk_model.specs.declared.outcome.Outcome.TheVariants.{Failed}
 use Rattle.bulk_run.specs.declared.phases.Stop.{Stop}
 
+-- what comes of staged files where the base root has no file and no package is installed
+abbrev pub packed_alone : JobView → List FileItem → Outcome
+packed_alone job files = packed [] job [] files
+
 -- what comes of a build whose phases ended so, with the folder that they left
 abbrev pub outcome_after : JobView → Option Stop → Contents → Outcome
-outcome_after job None folder = packed job (staged folder)
+outcome_after job None folder = packed_alone job (staged folder)
 outcome_after job (Some stop) folder = Failed stop.phase stop.code
 
 -- a file with so many of its first bytes

@@ -86,10 +86,13 @@ pub(crate) fn limit_name(which: Which) -> &'static str
         Which::FileBytes => "FileBytes",
         Which::Options => "Options",
         Which::Depends => "Depends",
+        Which::VarsBytes => "VarsBytes",
         Which::Nodes => "Nodes",
         Which::PlanNodes => "PlanNodes",
         Which::JobBytes => "JobBytes",
+        Which::DistBytes => "DistBytes",
         Which::StoreNames => "StoreNames",
         Which::StoreBytes => "StoreBytes",
+        Which::Generations => "Generations",
     }
 }

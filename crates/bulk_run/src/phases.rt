@@ -3,7 +3,7 @@ ghost use Rattle.std.specs.Prelude.{◌≡◌, IsTrue, IfOk};
 ghost use Rattle.outside.specs.Faults.{HasCause};
 ghost use Rattle.bulk_model.specs.Bake.{run_all, phases_of};
 ghost use Rattle.bulk_model.specs.Bake as bake;
-ghost use Rattle.bulk_run.specs.RoomBuild.{outcome_after};
+ghost use Rattle.bulk_run.specs.RoomBuild.{outcome_after, packed_alone};
 
 use bulk_model::{Command, Commands, Job, Phase};
 use outside::{Outer, Room};
@@ -46,7 +46,9 @@ pub(crate) fn run_phases<R: Room>(
     room: &mut R,
     job: &Job,
 ) -> Result<Option<Stop>, Outer>
-    ensures told { IsTrue R.Ways.tells → IfOk result (λ stop. bake.run_phases R.Ways.runs job.now (phases_of job.now.steps) (R.folder room.old) ≡ outcome_after job.now stop (R.folder room.new)) }
+    ensures told { IsTrue R.Ways.tells → IfOk result (λ stop.
+        bake.run_phases R.Ways.runs (packed_alone job.now) (phases_of job.now.steps) (R.folder room.old)
+            ≡ outcome_after job.now stop (R.folder room.new)) }
     ensures begun { R.begun room.new ≡ R.begun room.old }
     ensures cause { HasCause (R.faults room.old) (R.faults room.new) result }
 {

@@ -3,7 +3,7 @@ ghost use Rattle.std.specs.Prelude.{◌≡◌, ◌++◌, [], ◌∷◌, IfOk, On
 ghost use Rattle.outside.specs.Faults.{HasCause};
 ghost use Rattle.outside.specs.Outcomes.{GrewByAtMost};
 ghost use Rattle.bulk_run.specs.PortsWanted.{names_of};
-ghost use Rattle.bulk_run.specs.PortsRun.{IsBuildOf, AreBuildsOf};
+ghost use Rattle.bulk_run.specs.PortsRun.{IsBuildAlone, AreBuildsOf};
 ghost use Rattle.bulk_run.specs.Ending.{BeganFirst};
 
 use crate::room_build::build;
@@ -17,7 +17,7 @@ pub(crate) type Outcomes = Sequence<Outcome>;
 
 // What comes of the build of one port.
 fn build_port<R: Room>(alloc: Global, room: &mut R, job: &Job) -> Result<Outcome, Outer>
-    ensures build { IfOk result (IsBuildOf R.Ways.tells R.Ways.runs job.now) }
+    ensures build { IfOk result (IsBuildAlone R.Ways.tells R.Ways.runs job.now) }
     ensures begun { OnOk result (R.begun room.new ≡ R.begun room.old ++ job.now.name ∷ []) }
     ensures begun_err { OnErr result (GrewByAtMost job.now.name (R.begun room.old) (R.begun room.new)) }
     ensures cause { HasCause (R.faults room.old) (R.faults room.new) result }

@@ -2,7 +2,8 @@
 ghost use Rattle.std.specs.Prelude.{◌≡◌, ◌<◌, [], ◌∷◌, ◌++◌, IsTrue, IfOk, OnOk, OnErr};
 ghost use Rattle.outside.specs.Outcomes.{GrewByAtMost};
 ghost use Rattle.outside.specs.Faults.{HasCause};
-ghost use Rattle.bulk_model.specs.Bake.{bake, packed, staged};
+ghost use Rattle.bulk_model.specs.Bake.{bake, staged};
+ghost use Rattle.bulk_run.specs.RoomBuild.{packed_alone};
 ghost use Rattle.bulk_model.specs.Weight.{most_weight};
 ghost use Rattle.bulk_model.specs.Baked.{IsOutcomeOf};
 
@@ -17,8 +18,8 @@ use std::alloc::Global;
 // What comes of a build that staged its files, where so many bytes of a file are already too heavy.
 fn pack_staged<R: Room>(alloc: Global, room: &mut R, job: &Job, most: u64) -> Result<Outcome, Outer>
     requires { most_weight < most }
-    ensures told { IsTrue R.Ways.tells → IfOk result (λ outcome. outcome ≡ packed job.now (staged (R.folder room.old))) }
-    ensures fields { IfOk result (IsOutcomeOf job.now) }
+    ensures told { IsTrue R.Ways.tells → IfOk result (λ outcome. outcome ≡ packed_alone job.now (staged (R.folder room.old))) }
+    ensures fields { IfOk result (IsOutcomeOf [] job.now []) }
     ensures begun { R.begun room.new ≡ R.begun room.old }
     ensures cause { HasCause (R.faults room.old) (R.faults room.new) result }
 {
@@ -32,7 +33,7 @@ fn pack_staged<R: Room>(alloc: Global, room: &mut R, job: &Job, most: u64) -> Re
 /// whose status is not 0. What then stands below `stage/` is the package, unless it is too heavy.
 pub(crate) fn build<R: Room>(alloc: Global, room: &mut R, job: &Job) -> Result<Outcome, Outer>
     ensures told { IsTrue R.Ways.tells → IfOk result (λ outcome. outcome ≡ bake R.Ways.runs [] job.now []) }
-    ensures fields { IfOk result (IsOutcomeOf job.now) }
+    ensures fields { IfOk result (IsOutcomeOf [] job.now []) }
     ensures begun { OnOk result (R.begun room.new ≡ R.begun room.old ++ job.now.name ∷ []) }
     ensures begun_err { OnErr result (GrewByAtMost job.now.name (R.begun room.old) (R.begun room.new)) }
     ensures cause { HasCause (R.faults room.old) (R.faults room.new) result }

@@ -8,6 +8,7 @@ use Rattle.std.specs.Ordering.{nat_cmp}
 use Rattle.bulk_base.specs.Names.{IsOrigin, IsPackageName}
 use Rattle.bulk_model.specs.Facts.{IsJob}
 use Rattle.bulk_model.specs.PlanFacts.{IsPlan}
+use Rattle.bulk_model.proofs.PlanTests.{targets_tested, without_tested, none_wanted}
 use Rattle.graph_cases.specs.Examples.{bare, ignoring}
 
 none_ascend : IsStrictlySortedBy (slice_cmp nat_cmp) []
@@ -47,9 +48,10 @@ is_plan =
       few = omega arith;
       edges = refl;
       ignored = refl;
-      targets = refl;
-      wanted = refl;
-      without = refl;
+      boosted = refl;
+      targets = targets_tested ignoring refl;
+      wanted = none_wanted 2;
+      without = without_tested ignoring refl;
       loopless = refl;
       names = names_differ;
       base = record { form = record { order = none_ascend; apart = refl; short = refl }; free = refl };

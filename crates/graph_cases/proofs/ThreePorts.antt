@@ -1,5 +1,5 @@
 -- The plans of three ports are plans.
-use Rattle.std.proofs.Common.{◌≡◌, ℕ, List, [], ◌∷◌, length, map, codes, refl, ap, sym, subst, arith, None, Option}
+use Rattle.std.proofs.Common.{◌≡◌, ℕ, Bool, false, List, [], ◌∷◌, length, map, replicate, codes, refl, ap, sym, subst, arith, None, Option}
 use Rattle.std.specs.Prelude.{bytes_eq}
 use Rattle.std.specs.List.{IsDistinct}
 use Rattle.std.specs.List.Sorted.{IsStrictlySortedBy}
@@ -16,6 +16,7 @@ use Rattle.bulk_model.specs.Facts.{IsJob, IsOptionList, IsDependList, IsFileList
 use Rattle.bulk_model.specs.Views.{JobView}
 use Rattle.bulk_model.specs.PlanView.{PlanView}
 use Rattle.bulk_model.specs.PlanFacts.{IsPlan, IsBase}
+use Rattle.bulk_model.proofs.PlanTests.{targets_tested, without_tested, none_wanted}
 use Rattle.graph_cases.specs.Threes.{chain_edges, fan_edges, three_names}
 
 none_ascend : IsStrictlySortedBy (slice_cmp nat_cmp) []
@@ -62,7 +63,7 @@ no_base : IsBase []
 no_base = record { form = no_files 1024; free = refl }
 
 abbrev made : List (List Edge) → List JobView → PlanView
-made edges jobs = record { jobs = jobs; edges = edges; ignored = None ∷ None ∷ None ∷ []; wanted = []; base = [] }
+made edges jobs = record { jobs = jobs; edges = edges; ignored = None ∷ None ∷ None ∷ []; wanted = []; base = []; boosted = replicate 3 false }
 
 chain_is : (a b : DepKind) (jobs : List JobView) → map (λ job. job.name) jobs ≡ three_names → IsPlan (made (chain_edges a b) jobs)
 chain_is a b [] e = absurd (omega (arith, ap length e))
@@ -72,9 +73,10 @@ chain_is a b (x ∷ y ∷ z ∷ []) e = record {
   few = omega arith;
   edges = refl;
   ignored = refl;
-  targets = refl;
-  wanted = refl;
-  without = refl;
+  boosted = refl;
+  targets = targets_tested (made (chain_edges a b) (x ∷ y ∷ z ∷ [])) refl;
+  wanted = none_wanted 3;
+  without = without_tested (made (chain_edges a b) (x ∷ y ∷ z ∷ [])) refl;
   loopless = refl;
   names = subst (IsDistinct bytes_eq) (sym e) distinct_names;
   base = no_base;
@@ -89,27 +91,26 @@ fan_is a b (x ∷ y ∷ z ∷ []) e = record {
   few = omega arith;
   edges = refl;
   ignored = refl;
-  targets = refl;
-  wanted = refl;
-  without = refl;
+  boosted = refl;
+  targets = targets_tested (made (fan_edges a b) (x ∷ y ∷ z ∷ [])) refl;
+  wanted = none_wanted 3;
+  without = without_tested (made (fan_edges a b) (x ∷ y ∷ z ∷ [])) refl;
   loopless = refl;
   names = subst (IsDistinct bytes_eq) (sym e) distinct_names;
   base = no_base;
 }
 fan_is a b (x ∷ y ∷ z ∷ w ∷ more) e = absurd (omega (arith, ap length e))
 
-as_made : (jobs : List JobView) (edges others : List (List Edge)) (ignored : List (Option (List ℕ))) (wanted : List ℕ) (base : List FileItem) → edges ≡ others → ignored ≡ None ∷ None ∷ None ∷ [] → wanted ≡ [] → base ≡ []
-    → IsPlan (made others jobs) → IsPlan (record { jobs = jobs; edges = edges; ignored = ignored; wanted = wanted; base = base })
-as_made jobs edges others ignored wanted base e i w b is =
-    subst (λ x. IsPlan (record { jobs = jobs; edges = x; ignored = ignored; wanted = wanted; base = base })) (sym e)
-    (subst (λ x. IsPlan (record { jobs = jobs; edges = others; ignored = x; wanted = wanted; base = base })) (sym i)
-    (subst (λ x. IsPlan (record { jobs = jobs; edges = others; ignored = None ∷ None ∷ None ∷ []; wanted = x; base = base })) (sym w)
-    (subst (λ x. IsPlan (record { jobs = jobs; edges = others; ignored = None ∷ None ∷ None ∷ []; wanted = []; base = x })) (sym b) is)))
+module _ (jobs : List JobView) (edges : List (List Edge)) (ignored : List (Option (List ℕ))) (wanted : List ℕ) (base : List FileItem) (boosted : List Bool)
+    (names : map (λ job. job.name) jobs ≡ three_names) (i : ignored ≡ None ∷ None ∷ None ∷ []) (w : wanted ≡ []) (b : base ≡ []) (m : boosted ≡ replicate 3 false) where
+  abbrev plan : PlanView
+  plan = record { jobs = jobs; edges = edges; ignored = ignored; wanted = wanted; base = base; boosted = boosted }
 
-pub is_chain : (a b : DepKind) (jobs : List JobView) (edges : List (List Edge)) (ignored : List (Option (List ℕ))) (wanted : List ℕ) (base : List FileItem) → map (λ job. job.name) jobs ≡ three_names → edges ≡ chain_edges a b
-    → ignored ≡ None ∷ None ∷ None ∷ [] → wanted ≡ [] → base ≡ [] → IsPlan (record { jobs = jobs; edges = edges; ignored = ignored; wanted = wanted; base = base })
-is_chain a b jobs edges ignored wanted base n e i w o = as_made jobs edges (chain_edges a b) ignored wanted base e i w o (chain_is a b jobs n)
+  is_made : (others : List (List Edge)) → edges ≡ others → plan ≡ made others jobs
+  is_made others e k = record { jobs = jobs; edges = e k; ignored = i k; wanted = w k; base = b k; boosted = m k }
 
-pub is_fan : (a b : DepKind) (jobs : List JobView) (edges : List (List Edge)) (ignored : List (Option (List ℕ))) (wanted : List ℕ) (base : List FileItem) → map (λ job. job.name) jobs ≡ three_names → edges ≡ fan_edges a b
-    → ignored ≡ None ∷ None ∷ None ∷ [] → wanted ≡ [] → base ≡ [] → IsPlan (record { jobs = jobs; edges = edges; ignored = ignored; wanted = wanted; base = base })
-is_fan a b jobs edges ignored wanted base n e i w o = as_made jobs edges (fan_edges a b) ignored wanted base e i w o (fan_is a b jobs n)
+  pub is_chain : (first second : DepKind) → edges ≡ chain_edges first second → IsPlan plan
+  is_chain first second e = subst IsPlan (sym (is_made (chain_edges first second) e)) (chain_is first second jobs names)
+
+  pub is_fan : (first second : DepKind) → edges ≡ fan_edges first second → IsPlan plan
+  is_fan first second e = subst IsPlan (sym (is_made (fan_edges first second) e)) (fan_is first second jobs names)

@@ -1,5 +1,5 @@
 -- Worked examples of builds, of what comes of a plan and of what is printed, for tests. A port `a/NAME` makes `NAME-1.0`.
-use Rattle.std.specs.Prelude.{ℕ, List, [], ◌∷◌, ◌++◌, map, codes, bytes_eq, unwrap_or, if◌then◌else◌, Option, Some, None}
+use Rattle.std.specs.Prelude.{ℕ, false, List, [], ◌∷◌, ◌++◌, map, codes, bytes_eq, unwrap_or, if◌then◌else◌, Option, Some, None}
 use Rattle.std.specs.List.{flat_map}
 use Rattle.bulk_base.specs.Words.{words_of}
 use Rattle.bulk_base.specs.Number.{number_of}
@@ -16,7 +16,7 @@ use Rattle.bulk_model.specs.Views.{JobView, PackageView}
 use Rattle.bulk_model.specs.PlanView.{PlanView}
 use Rattle.bulk_model.specs.Bake.{bake, package_of}
 use Rattle.bulk_model.specs.Results.{res_given}
-use Rattle.bulk_model.specs.Spelling.{line}
+use Rattle.bulk_model.specs.Lines.{line}
 
 -- a port without files and commands
 abbrev pub bare : List ℕ → List ℕ → JobView
@@ -41,7 +41,7 @@ port_with name build stage =
 
 -- a package with a file
 abbrev pub package_with : List ℕ → List ℕ → List ℕ → PackageView
-package_with name path bytes = package_of (port name) (record { path = path; bytes = bytes } ∷ [])
+package_with name path bytes = package_of [] (port name) [] (record { path = path; bytes = bytes } ∷ [])
 
 -- the status of a command: `true` does nothing, `exit N` ends with N, and there is no other program
 abbrev pub status : List (List ℕ) → ℕ
@@ -59,17 +59,17 @@ to kind n = record { kind = kind; to = n }
 
 -- ports by name, each with its dependencies and why it is ignored
 abbrev pub plan_of : List (List ℕ × List Edge × Option (List ℕ)) → PlanView
-plan_of ports = record { jobs = map (λ p. port p.0) ports; edges = map (λ p. p.1) ports; ignored = map (λ p. p.2) ports; wanted = []; base = [] }
+plan_of ports = record { jobs = map (λ p. port p.0) ports; edges = map (λ p. p.1) ports; ignored = map (λ p. p.2) ports; wanted = []; base = []; boosted = map (λ p. false) ports }
 
 -- the package of a name, without files
 abbrev pub plain : List ℕ → PackageView
-plain name = package_of (port name) []
+plain name = package_of [] (port name) [] []
 
 abbrev pub made : List ℕ → Option Outcome
 made name = Some (MadePackage (plain name))
 
 abbrev pub made_by : JobView → Option Outcome
-made_by job = Some (MadePackage (package_of job []))
+made_by job = Some (MadePackage (package_of [] job [] []))
 
 abbrev pub built : List ℕ → Status
 built name = Built (plain name)

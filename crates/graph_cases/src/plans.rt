@@ -5,7 +5,7 @@ ghost use Rattle.graph_cases.specs.Examples.{bare, ignoring};
 
 use bulk_base::{NoMemory, Sequence, Text};
 use bulk_model::{
-    DepKind, Edge, EdgeLists, Job, Jobs, MaybeTexts, Plan, Results, Status, Steps, cause,
+    DepKind, Edge, EdgeLists, Flags, Job, Jobs, MaybeTexts, Plan, Results, Status, Steps, cause,
 };
 use case_text::{CaseError, push_number};
 use std::alloc::Global;
@@ -78,12 +78,14 @@ fn ignored_pair(alloc: Global) -> Result<Plan, NoMemory>
     let jobs = two_jobs(alloc)?;
     let edges = one_edge(alloc)?;
     let ignored = one_ignored(alloc)?;
+    let boosted = Flags::none(alloc, 2)?;
     Ok(Plan {
         jobs,
         edges,
         ignored,
         wanted: Sequence::new(alloc),
         base: Sequence::new(alloc),
+        boosted,
     })
 }
 

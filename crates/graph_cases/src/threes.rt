@@ -6,7 +6,7 @@ ghost use Rattle.graph_cases.specs.Threes.{chain_edges, fan_edges, three_names};
 use crate::graphs::push_numbers;
 use crate::making::kind_named;
 use bulk_base::{NoMemory, Sequence, Text};
-use bulk_model::{DepKind, Edge, EdgeLists, Edges, Job, Jobs, MaybeTexts, Plan, Steps};
+use bulk_model::{DepKind, Edge, EdgeLists, Edges, Flags, Job, Jobs, MaybeTexts, Plan, Steps};
 use case_text::{CaseError, number_of, push_str};
 use dep_graph::{Collector, installs};
 use std::alloc::Global;
@@ -107,6 +107,7 @@ fn chain_of_three(alloc: Global, first: DepKind, second: DepKind) -> Result<Plan
         ignored: three_kept(alloc)?,
         wanted: Sequence::new(alloc),
         base: Sequence::new(alloc),
+        boosted: Flags::none(alloc, 3)?,
     })
 }
 
@@ -119,6 +120,7 @@ fn fan_of_three(alloc: Global, first: DepKind, second: DepKind) -> Result<Plan, 
         ignored: three_kept(alloc)?,
         wanted: Sequence::new(alloc),
         base: Sequence::new(alloc),
+        boosted: Flags::none(alloc, 3)?,
     })
 }
 

@@ -1,5 +1,5 @@
-use Rattle.std.proofs.Common.{◌≡◌, ◌<◌, ◌∙◌, ap, arith}
-use Rattle.hex.specs.Hex.{IsBytes, encode_lower}
+use Rattle.std.proofs.Common.{◌∙◌, ap, arith}
+use Rattle.hex.specs.Hex.{IsBytes}
 use Rattle.bulk_base.specs.Text.{is_text}
 use Rattle.bulk_model.proofs.Digits.{is_text-hex}
 use Rattle.bulk_model.proofs.digest.digits_of.Goals as goal

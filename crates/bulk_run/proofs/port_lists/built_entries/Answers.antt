@@ -5,7 +5,8 @@ use Rattle.std.proofs.lemmas.List.{length_push}
 use Rattle.std.proofs.lemmas.Slice.Zip.{zip_turn}
 use Rattle.bulk_model.specs.Fit.{status_in}
 use Rattle.bulk_model.specs.Lists.{built_entry}
-use Rattle.bulk_model.specs.Results.{no_job, status_of_outcome}
+use Rattle.bulk_model.specs.PlanView.{no_job}
+use Rattle.bulk_model.specs.Results.{status_of_outcome}
 use Rattle.bulk_run.specs.PortsPlan.{plan_of}
 use Rattle.bulk_run.proofs.PortEntries.{entries_more, built_at}
 use Rattle.bulk_run.proofs.port_lists.built_entries.Goals as goal

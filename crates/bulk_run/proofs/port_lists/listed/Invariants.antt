@@ -3,7 +3,7 @@ use Rattle.std.specs.Fmt.{decimal}
 use Rattle.std.specs.List.{flat_map}
 use Rattle.std.specs.String.{string_bytes}
 use Rattle.bulk_model.specs.Lists.{two_words}
-use Rattle.bulk_model.specs.Spelling.{line}
+use Rattle.bulk_model.specs.Lines.{line}
 use Rattle.bulk_run.proofs.port_lists.listed.Given as goal
 
 abbrev pub invariant-loop-entry : goal.invariant-loop-entry

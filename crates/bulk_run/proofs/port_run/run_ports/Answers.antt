@@ -1,6 +1,6 @@
 use Rattle.std.proofs.Common.{◌++◌, ◌∙◌, ap, inr, length}
 use Rattle.std.proofs.lemmas.Slice.Zip.{AllZip-long}
-use Rattle.bulk_run.specs.PortsRun.{IsBuildOf}
+use Rattle.bulk_run.specs.PortsRun.{IsBuildAlone}
 use Rattle.bulk_run.specs.PortsWanted.{names_of}
 use Rattle.bulk_run.proofs.PortsBuilt.{began_all, has_stored_first}
 use Rattle.bulk_run.proofs.port_run.run_ports.Goals as goal
@@ -16,7 +16,7 @@ returns-in-Err-store_all-clause-begun g c =
 
 pub ports_report-requires : goal.ports_report-requires
 ports_report-requires g c =
-    ap length c.as_slice-in-Ok-store_all-2.ensures ∙ AllZip-long (IsBuildOf g.R.Ways.Ways.tells g.R.Ways.Ways.runs) c.as_slice-jobs.result.now c.in-Ok.outcomes c.in-Ok.ensures.builds
+    ap length c.as_slice-in-Ok-store_all-2.ensures ∙ AllZip-long (IsBuildAlone g.R.Ways.Ways.tells g.R.Ways.Ways.runs) c.as_slice-jobs.result.now c.in-Ok.outcomes c.in-Ok.ensures.builds
 
 pub returns-clause-left : goal.returns-clause-left
 returns-clause-left g c t =

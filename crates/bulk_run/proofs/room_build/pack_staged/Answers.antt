@@ -1,9 +1,10 @@
 use Rattle.std.proofs.Common.{◌∙◌, ap}
-use Rattle.bulk_model.specs.Bake.{packed, staged}
+use Rattle.bulk_model.specs.Bake.{staged}
+use Rattle.bulk_run.specs.RoomBuild.{packed_alone}
 use Rattle.bulk_run.proofs.CutFiles.{packed-cut}
 use Rattle.bulk_run.proofs.room_build.pack_staged.Goals as goal
 
 pub returns-clause-told : goal.returns-clause-told
 returns-clause-told g c t =
-    c.in_ok-pack.ensures.told ∙ ap (packed c.args.job.now) (c.in_ok-files.ensures.told t)
+    c.in_ok-pack.ensures.told ∙ ap (packed_alone c.args.job.now) (c.in_ok-files.ensures.told t)
     ∙ packed-cut c.args.most c.args.job.now (staged (g.R.Room.folder c.args.room.now)) c.requires

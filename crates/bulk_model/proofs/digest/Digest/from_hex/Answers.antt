@@ -1,6 +1,5 @@
-use Rattle.std.proofs.Common.{◌≡◌, true, ap, sym, ◌∙◌}
+use Rattle.std.proofs.Common.{ap, sym, ◌∙◌}
 use Rattle.hex.specs.Hex.{encode_lower, decode_sized}
-use Rattle.bulk_model.specs.Digests.{is_digest}
 use Rattle.bulk_model.proofs.Digits.{decoded, told, is_no_error}
 use Rattle.bulk_model.proofs.digest.Digest.from_hex.Goals as goal
 
