@@ -1,0 +1,4 @@
+pub mod Graph
+pub mod Growing
+pub mod Installed
+pub mod Following

@@ -1,0 +1,29 @@
+-- Laws on the results of a plan.
+use Rattle.std.specs.Prelude.{◌≡◌, ℕ, ◌<◌}
+use Rattle.bulk_model.specs.declared.plan.Kept.{Kept as KeptPackages}
+use Rattle.bulk_model.specs.declared.results.Status.{Status}
+use Rattle.bulk_model.specs.Fit.{status_in}
+use Rattle.bulk_model.specs.PlanFacts.{IsPlan}
+use Rattle.bulk_model.specs.PlanView.{PlanView, count}
+use Rattle.bulk_model.specs.Results.{Bakes, status_from, status_at, statuses_of}
+
+-- at each node the status is the one that follows from those of the others
+abbrev pub Solves : Bakes → PlanView → KeptPackages → (ℕ → Status) → Type 0
+Solves bakes plan kept s = (n : ℕ) → n < count plan → s n ≡ status_from bakes plan kept s n
+
+-- the results solve their own recursion: no bound is met
+abbrev pub ResultsUnfold : Type 0
+ResultsUnfold =
+    (bakes : Bakes) (plan : PlanView) (kept : KeptPackages) → IsPlan plan → Solves bakes plan kept (status_at bakes plan kept)
+
+-- whatever solves the recursion is the results
+abbrev pub SolutionsAreResults : Type 0
+SolutionsAreResults =
+    (bakes : Bakes) (plan : PlanView) (kept : KeptPackages) → IsPlan plan
+    → (s : ℕ → Status) → Solves bakes plan kept s → (n : ℕ) → n < count plan → s n ≡ status_at bakes plan kept n
+
+-- the results have at each node its status
+abbrev pub ResultsStand : Type 0
+ResultsStand =
+    (bakes : Bakes) (plan : PlanView) (kept : KeptPackages) (n : ℕ) → n < count plan
+    → status_in (statuses_of bakes plan kept) n ≡ status_at bakes plan kept n

@@ -1,0 +1,27 @@
+// What is installed for a build.
+ghost use Rattle.model_laws.specs.Installing.{InstalledAll, InstalledAreNodes, DependsAreInstalled, InstallsAreClosed, InstalledLieBelow};
+
+/// What holds of a node's dependencies, and goes from each node to its own, holds of all that is installed for it.
+pub fn installed_all()
+    ensures { InstalledAll }
+{}
+
+/// Just nodes are installed.
+pub fn installed_are_nodes()
+    ensures { InstalledAreNodes }
+{}
+
+/// A node's dependencies are installed for it.
+pub fn depends_are_installed()
+    ensures { DependsAreInstalled }
+{}
+
+/// What is installed has with it what it needs later.
+pub fn installs_are_closed()
+    ensures { InstallsAreClosed }
+{}
+
+/// What is installed for a node lies below it.
+pub fn installed_lie_below()
+    ensures { InstalledLieBelow }
+{}

@@ -1,0 +1,17 @@
+// What the results of a plan are.
+ghost use Rattle.model_laws.specs.Results.{ResultsUnfold, SolutionsAreResults, ResultsStand};
+
+/// The results solve their own recursion at every node: its bound is never met.
+pub fn results_unfold()
+    ensures { ResultsUnfold }
+{}
+
+/// Whatever solves the recursion at every node is the results.
+pub fn solutions_are_results()
+    ensures { SolutionsAreResults }
+{}
+
+/// The results have at each node its status.
+pub fn results_stand()
+    ensures { ResultsStand }
+{}
