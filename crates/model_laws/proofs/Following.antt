@@ -5,7 +5,7 @@ use Rattle.std.specs.List.{list_all, filter_map, range_with_len}
 use Rattle.std.specs.Option.{option_map_or}
 use Rattle.std.proofs.Math.ListN.{get_or-map}
 use Rattle.std.proofs.lemmas.List.{length-map, get_or_default}
-use Rattle.std.proofs.lemmas.List.FromFn.{length-range_with_len, get_or-range_with_len}
+use Rattle.std.proofs.lemmas.List.FromFn.{get_or-map-range_with_len}
 use Rattle.bulk_base.proofs.Members.{list_all_agree, filter_map_agree}
 use Rattle.bulk_model.specs.declared.plan.Kept.{Kept as KeptPackages}
 use Rattle.bulk_model.specs.declared.results.Status.{Status}
@@ -18,16 +18,6 @@ use Rattle.bulk_model.specs.Results.{Bakes, kept_at, is_good, package_in, status
 use Rattle.model_laws.specs.Results.{Solves}
 use Rattle.model_laws.proofs.Graph.{target_below, all_away, depends_away, depends_below}
 use Rattle.model_laws.proofs.Installed.{installs_keep, installed_lie_below}
-
--- a map of the first numbers
-pub mapped_range : {X : Type 0} (f : ℕ → X) (many k : ℕ) (d : X) → k < many → get_or (map f (range_with_len 0 many)) k d ≡ f k
-mapped_range f many k d b =
-    let size : length (range_with_len 0 many) ≡ many = length-range_with_len 0 many in
-    let same : length (map f (range_with_len 0 many)) ≡ length (range_with_len 0 many) = length-map (range_with_len 0 many) f in
-    let zero_add : 0 + k ≡ k = omega arith in
-    get_or_default (map f (range_with_len 0 many)) k d (f 0) (omega arith)
-    ∙ get_or-map f (range_with_len 0 many) k 0
-    ∙ ap f (get_or-range_with_len 0 many k 0 b ∙ zero_add)
 
 module _ (bakes : Bakes) (plan : PlanView) (kept : KeptPackages) where
   -- statuses that agree at the dependencies and at what is installed give one status
@@ -76,4 +66,4 @@ module _ (bakes : Bakes) (plan : PlanView) (kept : KeptPackages) where
   solutions_are_results is s solves n l = solved_up_to is s solves (count plan) n l (all_away plan is n l)
 
   pub results_stand : (n : ℕ) → n < count plan → status_in (statuses_of bakes plan kept) n ≡ status_at bakes plan kept n
-  results_stand n l = mapped_range (status_at bakes plan kept) (count plan) n Skipped l
+  results_stand n l = get_or-map-range_with_len (status_at bakes plan kept) 0 (count plan) n n Skipped l (omega arith)

@@ -1,11 +1,13 @@
 -- Laws on the results of a plan.
-use Rattle.std.specs.Prelude.{◌≡◌, ℕ, ◌<◌}
+use Rattle.std.specs.Prelude.{◌≡◌, ℕ, true, ◌<◌, List, Option}
+use Rattle.bulk_model.specs.declared.outcome.Outcome.{Outcome}
 use Rattle.bulk_model.specs.declared.plan.Kept.{Kept as KeptPackages}
 use Rattle.bulk_model.specs.declared.results.Status.{Status}
-use Rattle.bulk_model.specs.Fit.{status_in}
+use Rattle.bulk_model.specs.Fit.{status_in, outcome_at}
+use Rattle.bulk_model.specs.Order.{is_tried}
 use Rattle.bulk_model.specs.PlanFacts.{IsPlan}
 use Rattle.bulk_model.specs.PlanView.{PlanView, count}
-use Rattle.bulk_model.specs.Results.{Bakes, status_from, status_at, statuses_of}
+use Rattle.bulk_model.specs.Results.{Bakes, status_from, status_at, statuses_of, res_given}
 
 -- at each node the status is the one that follows from those of the others
 abbrev pub Solves : Bakes → PlanView → KeptPackages → (ℕ → Status) → Type 0
@@ -27,3 +29,10 @@ abbrev pub ResultsStand : Type 0
 ResultsStand =
     (bakes : Bakes) (plan : PlanView) (kept : KeptPackages) (n : ℕ) → n < count plan
     → status_in (statuses_of bakes plan kept) n ≡ status_at bakes plan kept n
+
+-- two lists of outcomes give the same results where they agree at each node that the first's results call built or failed
+abbrev pub OutcomesDecide : Type 0
+OutcomesDecide =
+    (a b : List (Option Outcome)) (plan : PlanView) (kept : KeptPackages) → IsPlan plan
+    → ((n : ℕ) → n < count plan → is_tried (status_in (res_given a plan kept) n) ≡ true → outcome_at a n ≡ outcome_at b n)
+    → res_given a plan kept ≡ res_given b plan kept

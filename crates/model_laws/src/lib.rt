@@ -1,10 +1,15 @@
 //! Laws over the definitions of the model, each the contract of a function that does nothing.
 #![tactic(auto)]
 
+mod fitting;
 mod installs;
 mod results;
 
+pub use fitting::{
+    bake_is_build, bakes_give_jobs, built_have_fields, dry_builds_give_jobs, outcomes_give_jobs, results_fit,
+    right_builds_are_right,
+};
 pub use installs::{
     depends_are_installed, installed_all, installed_are_nodes, installed_lie_below, installs_are_closed,
 };
-pub use results::{results_stand, results_unfold, solutions_are_results};
+pub use results::{outcomes_decide, results_stand, results_unfold, solutions_are_results};

@@ -1,5 +1,5 @@
 // What the results of a plan are.
-ghost use Rattle.model_laws.specs.Results.{ResultsUnfold, SolutionsAreResults, ResultsStand};
+ghost use Rattle.model_laws.specs.Results.{ResultsUnfold, SolutionsAreResults, ResultsStand, OutcomesDecide};
 
 /// The results solve their own recursion at every node: its bound is never met.
 pub fn results_unfold()
@@ -14,4 +14,9 @@ pub fn solutions_are_results()
 /// The results have at each node its status.
 pub fn results_stand()
     ensures { ResultsStand }
+{}
+
+/// Outcomes that agree at each node that was built give the same results.
+pub fn outcomes_decide()
+    ensures { OutcomesDecide }
 {}
