@@ -5,3 +5,5 @@ pub mod Following
 pub mod Deciding
 pub mod Fitted
 pub mod Building
+pub mod Blaming
+pub mod Longest

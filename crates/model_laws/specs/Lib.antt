@@ -1,3 +1,5 @@
 pub mod Results
 pub mod Installing
 pub mod Fitting
+pub mod Causes
+pub mod Chains

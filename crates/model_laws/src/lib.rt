@@ -1,10 +1,14 @@
 //! Laws over the definitions of the model, each the contract of a function that does nothing.
 #![tactic(auto)]
 
+mod causes;
+mod chains;
 mod fitting;
 mod installs;
 mod results;
 
+pub use causes::{causes_are_to_blame, causes_unfold};
+pub use chains::nine_edges_are_enough;
 pub use fitting::{
     bake_is_build, bakes_give_jobs, built_have_fields, dry_builds_give_jobs, outcomes_give_jobs, results_fit,
     right_builds_are_right,
