@@ -7,3 +7,7 @@ pub mod Fitted
 pub mod Building
 pub mod Blaming
 pub mod Longest
+pub mod Ordered
+pub mod Closing
+pub mod Moving
+pub mod Rounds

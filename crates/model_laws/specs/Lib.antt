@@ -3,3 +3,4 @@ pub mod Installing
 pub mod Fitting
 pub mod Causes
 pub mod Chains
+pub mod Soundness

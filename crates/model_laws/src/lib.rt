@@ -6,6 +6,7 @@ mod chains;
 mod fitting;
 mod installs;
 mod results;
+mod soundness;
 
 pub use causes::{causes_are_to_blame, causes_unfold};
 pub use chains::nine_edges_are_enough;
@@ -17,3 +18,7 @@ pub use installs::{
     depends_are_installed, installed_all, installed_are_nodes, installed_lie_below, installs_are_closed,
 };
 pub use results::{outcomes_decide, results_stand, results_unfold, solutions_are_results};
+pub use soundness::{
+    closed_part_is_greatest, fewer_stay_sound, members_are_in_order, members_stay, own_names_tell, rounds_install_all,
+    sound_is_by_rounds,
+};
