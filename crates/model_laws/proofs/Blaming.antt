@@ -1,5 +1,5 @@
 -- The way from a skipped node to its cause ends at a node that failed or is ignored.
-use Rattle.std.proofs.Common.{◌≡◌, ℕ, zero, suc, ◌<◌, ◌≤◌, Bool, true, false, not, List, [], ◌∷◌, length, refl, ap, sym, subst, ◌∙◌, cond, arith, Option, Some, None, inl, inr, ◌⊎◌}
+use Rattle.std.proofs.Common.{◌≡◌, ℕ, zero, suc, ◌<◌, ◌≤◌, Bool, true, false, not, List, [], ◌∷◌, refl, ap, sym, subst, ◌∙◌, cond, arith, Option, Some, None, inl, inr, ◌⊎◌}
 use Rattle.std.specs.Prelude.{min, filter, Contains}
 use Rattle.std.specs.List.{fold}
 use Rattle.std.specs.Option.{option_map_or}
@@ -41,11 +41,13 @@ pub least_there : (xs : List ℕ) (x : ℕ) → Contains xs x → (d : ℕ) × (
 least_there [] x c = absurd (contains_none x c)
 least_there (y ∷ xs) x c = (fold min y xs, refl)
 
-by_test : (P : ℕ → Type 0) (b : Bool) (x y : ℕ) → (b ≡ true → P x) → (b ≡ false → P y) → P (cond b x y)
+by_test : (P : ℕ → Type 0) (b : Bool) (x y : ℕ) → (b ≡ true → P x) → (b ≡ false → P y)
+    → P (cond b x y)
 by_test P true x y f g = f refl
 by_test P false x y f g = g refl
 
-way_agrees : (f g : ℕ → ℕ) (o : Option ℕ) (n : ℕ) → ((d : ℕ) → o ≡ Some d → f d ≡ g d) → option_map_or f o n ≡ option_map_or g o n
+way_agrees : (f g : ℕ → ℕ) (o : Option ℕ) (n : ℕ) → ((d : ℕ) → o ≡ Some d → f d ≡ g d)
+    → option_map_or f o n ≡ option_map_or g o n
 way_agrees f g (Some d) n same = same d refl
 way_agrees f g None n same = refl
 
@@ -65,23 +67,27 @@ module _ (plan : PlanView) (statuses : List Status) where
   by steps d = cond (is_skipped (status_in statuses d)) (cause_within plan statuses steps d) d
 
   -- a least setback is a dependency without a package
-  pub setback_is : (n d : ℕ) → least_setback plan statuses n ≡ Some d → Contains (depends plan n) d × (lacks d ≡ true)
+  pub setback_is : (n d : ℕ) → least_setback plan statuses n ≡ Some d
+      → Contains (depends plan n) d × (lacks d ≡ true)
   setback_is n d e = filter_out_of lacks (depends plan n) d (least_in (filter lacks (depends plan n)) d e)
 
   -- a bound that is high enough may be raised
-  stable : (steps n : ℕ) → away plan steps n ≡ true → cause_within plan statuses steps n ≡ cause_within plan statuses (suc steps) n
+  stable : (steps n : ℕ) → away plan steps n ≡ true
+      → cause_within plan statuses steps n ≡ cause_within plan statuses (suc steps) n
   stable zero n gone = absurd (cc gone)
   stable (suc steps) n gone =
       way_agrees (by steps) (by (suc steps)) (least_setback plan statuses n) n
       (λ d e. ap (λ c. cond (is_skipped (status_in statuses d)) c d) (stable steps d (depends_below plan steps n d gone (setback_is n d e).0)))
 
   module _ (is : IsPlan plan) (fits : FitsResults plan statuses) where
-    pub setback : (n : ℕ) → n < count plan → is_skipped (status_in statuses n) ≡ true → (d : ℕ) × (least_setback plan statuses n ≡ Some d)
+    pub setback : (n : ℕ) → n < count plan → is_skipped (status_in statuses n) ≡ true
+        → (d : ℕ) × (least_setback plan statuses n ≡ Some d)
     setback n l skipped =
         let m : Member lacks (depends plan n) = any_member lacks (depends plan n) (fits.skipped n l skipped) in
         least_there (filter lacks (depends plan n)) m.one (filter_into lacks (depends plan n) m.one m.is m.does)
 
-    pub causes_unfold : (n : ℕ) → n < count plan → is_skipped (status_in statuses n) ≡ true → (d : ℕ) × IsWayOn plan statuses n d
+    pub causes_unfold : (n : ℕ) → n < count plan → is_skipped (status_in statuses n) ≡ true
+        → (d : ℕ) × IsWayOn plan statuses n d
     causes_unfold n l skipped =
         let s : (d : ℕ) × (least_setback plan statuses n ≡ Some d) = setback n l skipped in (
           s.0,
@@ -95,7 +101,8 @@ module _ (plan : PlanView) (statuses : List Status) where
     abbrev IsBlamed : ℕ → Type 0
     IsBlamed n = (n < count plan) × (is_to_blame (status_in statuses n) ≡ true)
 
-    blamed_within : (steps n : ℕ) → away plan steps n ≡ true → n < count plan → is_skipped (status_in statuses n) ≡ true → IsBlamed (cause_within plan statuses steps n)
+    blamed_within : (steps n : ℕ) → away plan steps n ≡ true → n < count plan
+        → is_skipped (status_in statuses n) ≡ true → IsBlamed (cause_within plan statuses steps n)
     blamed_within zero n gone l skipped = absurd (cc gone)
     blamed_within (suc steps) n gone l skipped =
         let s : (d : ℕ) × (least_setback plan statuses n ≡ Some d) = setback n l skipped in
@@ -106,5 +113,6 @@ module _ (plan : PlanView) (statuses : List Status) where
         (λ e. blamed_within steps s.0 (depends_below plan steps n s.0 gone here.0) below e)
         (λ e. (below, blamed (status_in statuses s.0) here.1 e)))
 
-    pub causes_are_to_blame : (n : ℕ) → n < count plan → is_skipped (status_in statuses n) ≡ true → IsBlamed (cause plan statuses n)
+    pub causes_are_to_blame : (n : ℕ) → n < count plan → is_skipped (status_in statuses n) ≡ true
+        → IsBlamed (cause plan statuses n)
     causes_are_to_blame n l skipped = blamed_within (count plan) n (all_away plan is n l) l skipped

@@ -1,5 +1,5 @@
 -- Outcomes that agree where nodes were built give the same results.
-use Rattle.std.proofs.Common.{◌≡◌, ℕ, ◌<◌, Bool, true, false, List, [], ◌∷◌, refl, ap, sym, ◌∙◌, cond, Option, Some, None}
+use Rattle.std.proofs.Common.{◌≡◌, ℕ, ◌<◌, Bool, true, false, List, [], ◌∷◌, refl, ap, ◌∙◌, cond, Option, Some, None}
 use Rattle.std.specs.Prelude.{map, unwrap_or, Contains}
 use Rattle.std.specs.List.{list_all}
 use Rattle.std.specs.Option.{option_map_or}
@@ -14,7 +14,7 @@ use Rattle.bulk_model.specs.Fit.{status_in, outcome_at}
 use Rattle.bulk_model.specs.Order.{is_tried}
 use Rattle.bulk_model.specs.PlanFacts.{IsPlan}
 use Rattle.bulk_model.specs.PlanView.{PlanView, count, nodes, depends, is_ignored}
-use Rattle.bulk_model.specs.Results.{kept_at, is_good, status_of_outcome, status_from, status_at, statuses_of, bakes_given, res_given}
+use Rattle.bulk_model.specs.Results.{kept_at, is_good, status_of_outcome, status_from, status_at, bakes_given, res_given}
 use Rattle.bulk_model.specs.Views.{PackageView}
 use Rattle.model_laws.specs.Results.{Solves}
 use Rattle.model_laws.proofs.Following.{results_unfold, solutions_are_results, results_stand}
@@ -27,7 +27,8 @@ tried_outcome : (outcome : Outcome) → is_tried (status_of_outcome outcome) ≡
 tried_outcome (MadePackage p) = refl
 tried_outcome (FailedBuild phase code) = refl
 
-decided : (kept : Option PackageView) (ignored good : Bool) (x y : Outcome) → (is_tried (status_with kept ignored good x) ≡ true → x ≡ y)
+decided : (kept : Option PackageView) (ignored good : Bool) (x y : Outcome)
+    → (is_tried (status_with kept ignored good x) ≡ true → x ≡ y)
     → status_with kept ignored good x ≡ status_with kept ignored good y
 decided (Some p) ignored good x y same = refl
 decided None true good x y same = refl
@@ -35,7 +36,8 @@ decided None false true x y same = ap status_of_outcome (same (tried_outcome x))
 decided None false false x y same = refl
 
 -- maps that agree at each member
-pub map_agree : {X Y : Type 0} (f g : X → Y) (xs : List X) → ((x : X) → Contains xs x → f x ≡ g x) → map f xs ≡ map g xs
+pub map_agree : {X Y : Type 0} (f g : X → Y) (xs : List X) → ((x : X) → Contains xs x → f x ≡ g x)
+    → map f xs ≡ map g xs
 map_agree f g [] same = refl
 map_agree f g (x ∷ xs) same =
     ap (λ y. y ∷ map f xs) (same x (contains_here x xs)) ∙ ap (λ ys. g x ∷ ys) (map_agree f g xs (λ y c. same y (contains_more x xs y c)))

@@ -1,10 +1,8 @@
 -- The statuses are those of each node over the others, and no other statuses are.
-use Rattle.std.proofs.Common.{◌≡◌, ℕ, zero, suc, ◌+◌, ◌<◌, true, length, get_or, ap, sym, subst, ◌∙◌, arith}
-use Rattle.std.specs.Prelude.{map, Contains, if◌then◌else◌}
-use Rattle.std.specs.List.{list_all, filter_map, range_with_len}
+use Rattle.std.proofs.Common.{◌≡◌, ℕ, zero, suc, ◌<◌, true, ap, ◌∙◌, arith}
+use Rattle.std.specs.Prelude.{Contains, if◌then◌else◌}
+use Rattle.std.specs.List.{list_all, filter_map}
 use Rattle.std.specs.Option.{option_map_or}
-use Rattle.std.proofs.Math.ListN.{get_or-map}
-use Rattle.std.proofs.lemmas.List.{length-map, get_or_default}
 use Rattle.std.proofs.lemmas.List.FromFn.{get_or-map-range_with_len}
 use Rattle.bulk_base.proofs.Members.{list_all_agree, filter_map_agree}
 use Rattle.bulk_model.specs.declared.plan.Kept.{Kept as KeptPackages}
@@ -13,7 +11,7 @@ use Rattle.bulk_model.specs.declared.results.Status.TheVariants.{Kept, Ignored, 
 use Rattle.bulk_model.specs.Fit.{status_in}
 use Rattle.bulk_model.specs.Installs.{installs}
 use Rattle.bulk_model.specs.PlanFacts.{IsPlan}
-use Rattle.bulk_model.specs.PlanView.{PlanView, count, nodes, depends, is_ignored, away}
+use Rattle.bulk_model.specs.PlanView.{PlanView, count, depends, is_ignored, away}
 use Rattle.bulk_model.specs.Results.{Bakes, kept_at, is_good, package_in, status_of_outcome, status_from, status_up_to, status_at, statuses_of}
 use Rattle.model_laws.specs.Results.{Solves}
 use Rattle.model_laws.proofs.Graph.{target_below, all_away, depends_away, depends_below}
@@ -21,7 +19,8 @@ use Rattle.model_laws.proofs.Installed.{installs_keep, installed_lie_below}
 
 module _ (bakes : Bakes) (plan : PlanView) (kept : KeptPackages) where
   -- statuses that agree at the dependencies and at what is installed give one status
-  pub from_agree : (f g : ℕ → Status) (n : ℕ) → ((d : ℕ) → Contains (depends plan n) d → f d ≡ g d) → ((d : ℕ) → Contains (installs plan n) d → f d ≡ g d)
+  pub from_agree : (f g : ℕ → Status) (n : ℕ) → ((d : ℕ) → Contains (depends plan n) d → f d ≡ g d)
+      → ((d : ℕ) → Contains (installs plan n) d → f d ≡ g d)
       → status_from bakes plan kept f n ≡ status_from bakes plan kept g n
   from_agree f g n first all =
       let good : list_all (λ d. is_good (f d)) (depends plan n) ≡ list_all (λ d. is_good (g d)) (depends plan n) =
@@ -34,7 +33,8 @@ module _ (bakes : Bakes) (plan : PlanView) (kept : KeptPackages) where
       (if list_all (λ d. is_good (g d)) (depends plan n) then status_of_outcome (bakes n packages) else Skipped))) same
 
   -- a bound that is high enough may be raised
-  stable : (height n : ℕ) → away plan height n ≡ true → status_up_to bakes plan kept height n ≡ status_up_to bakes plan kept (suc height) n
+  stable : (height n : ℕ) → away plan height n ≡ true
+      → status_up_to bakes plan kept height n ≡ status_up_to bakes plan kept (suc height) n
   stable zero n gone = absurd (cc gone)
   stable (suc height) n gone =
       from_agree (status_up_to bakes plan kept height) (status_up_to bakes plan kept (suc height)) n
@@ -48,13 +48,16 @@ module _ (bakes : Bakes) (plan : PlanView) (kept : KeptPackages) where
     pub below : n < count plan
     pub gone : away plan height n ≡ true
 
-  low_first : IsPlan plan → (height n : ℕ) → n < count plan → away plan (suc height) n ≡ true → (d : ℕ) → Contains (depends plan n) d → IsLow height d
+  low_first : IsPlan plan → (height n : ℕ) → n < count plan → away plan (suc height) n ≡ true
+      → (d : ℕ) → Contains (depends plan n) d → IsLow height d
   low_first is height n l gone d c = record { below = target_below plan is n d l c; gone = depends_below plan height n d gone c }
 
-  low_keep : IsPlan plan → (height m d : ℕ) → IsLow height m → Contains (depends plan m) d → IsLow height d
+  low_keep : IsPlan plan → (height m d : ℕ) → IsLow height m → Contains (depends plan m) d
+      → IsLow height d
   low_keep is height m d low c = record { below = target_below plan is m d low.below c; gone = depends_away plan height m d low.gone c }
 
-  solved_up_to : IsPlan plan → (s : ℕ → Status) → Solves bakes plan kept s → (height n : ℕ) → n < count plan → away plan height n ≡ true → s n ≡ status_up_to bakes plan kept height n
+  solved_up_to : IsPlan plan → (s : ℕ → Status) → Solves bakes plan kept s → (height n : ℕ)
+      → n < count plan → away plan height n ≡ true → s n ≡ status_up_to bakes plan kept height n
   solved_up_to is s solves zero n l gone = absurd (cc gone)
   solved_up_to is s solves (suc height) n l gone =
       solves n l
@@ -62,8 +65,10 @@ module _ (bakes : Bakes) (plan : PlanView) (kept : KeptPackages) where
       (λ d c. let low : IsLow height d = low_first is height n l gone d c in solved_up_to is s solves height d low.below low.gone)
       (λ d c. let low : IsLow height d = installs_keep plan (IsLow height) (low_keep is height) n (low_first is height n l gone) d c in solved_up_to is s solves height d low.below low.gone)
 
-  pub solutions_are_results : IsPlan plan → (s : ℕ → Status) → Solves bakes plan kept s → (n : ℕ) → n < count plan → s n ≡ status_at bakes plan kept n
+  pub solutions_are_results : IsPlan plan → (s : ℕ → Status) → Solves bakes plan kept s → (n : ℕ)
+      → n < count plan → s n ≡ status_at bakes plan kept n
   solutions_are_results is s solves n l = solved_up_to is s solves (count plan) n l (all_away plan is n l)
 
-  pub results_stand : (n : ℕ) → n < count plan → status_in (statuses_of bakes plan kept) n ≡ status_at bakes plan kept n
+  pub results_stand : (n : ℕ) → n < count plan
+      → status_in (statuses_of bakes plan kept) n ≡ status_at bakes plan kept n
   results_stand n l = get_or-map-range_with_len (status_at bakes plan kept) 0 (count plan) n n Skipped l (omega arith)

@@ -20,7 +20,8 @@ module _ {X : Type 0} (first : X → Bool) (leads : X → X → Bool) (members :
   grown_first zero x h = h
   grown_first (suc rounds) x h = grown_more rounds x (grown_first rounds x h)
 
-  pub grown_adds : (rounds : ℕ) (m x : X) → Contains members m → at rounds m ≡ true → leads m x ≡ true → at (suc rounds) x ≡ true
+  pub grown_adds : (rounds : ℕ) (m x : X) → Contains members m → at rounds m ≡ true
+      → leads m x ≡ true → at (suc rounds) x ≡ true
   grown_adds rounds m x c h e = or_right (at rounds x) (led rounds x) (member_any (λ y. at rounds y && leads y x) members m c (and_from (at rounds m) (leads m x) h e))
 
   abbrev IsFull : ℕ → Type 0

@@ -1,11 +1,10 @@
 -- What is installed for a node of a plan.
-use Rattle.std.proofs.Common.{◌≡◌, ℕ, zero, suc, ◌<◌, Bool, true, length, sym, subst, ap, ◌∙◌, arith, List, [], inl, inr}
+use Rattle.std.proofs.Common.{◌≡◌, ℕ, zero, suc, ◌<◌, Bool, true, length, sym, subst, inl, inr}
 use Rattle.std.specs.Prelude.{◌&&◌, filter, Contains}
 use Rattle.std.specs.List.{list_any, list_all}
-use Rattle.std.proofs.lemmas.Bool.{and_parts, or_cases, cases_lt}
-use Rattle.std.proofs.lemmas.List.{get_or_past}
+use Rattle.std.proofs.lemmas.Bool.{and_parts, or_cases}
 use Rattle.std.proofs.lemmas.List.FromFn.{length-range_with_len}
-use Rattle.bulk_base.proofs.Members.{Member, any_member, all_passes, passes_all, has_contains, contains_has, contains_map, contains_none, map_contains, Source, filter_out_of, filter_into, range_below, below_range}
+use Rattle.bulk_base.proofs.Members.{Member, any_member, all_passes, passes_all, has_contains, contains_has, contains_map, map_contains, Source, filter_out_of, filter_into, range_below, below_range}
 use Rattle.bulk_model.specs.declared.plan.Edge.{Edge}
 use Rattle.bulk_model.specs.Installs.{is_needed_later, later_depends, has, is_installed, installs}
 use Rattle.bulk_model.specs.PlanFacts.{IsPlan}
@@ -17,7 +16,8 @@ abbrev is_later : Edge → Bool
 is_later edge = is_needed_later edge.kind
 
 -- what is needed later is a dependency
-pub later_depends_are : (plan : PlanView) (n d : ℕ) → Contains (later_depends plan n) d → Contains (depends plan n) d
+pub later_depends_are : (plan : PlanView) (n d : ℕ) → Contains (later_depends plan n) d
+    → Contains (depends plan n) d
 later_depends_are plan n d h =
     let s : Source (λ (e : Edge). e.to) (filter is_later (edges_from plan n)) d = map_contains (λ (e : Edge). e.to) (filter is_later (edges_from plan n)) d h in
     subst (λ m. Contains (depends plan n) m) s.gives (contains_map (λ (e : Edge). e.to) (edges_from plan n) s.one (filter_out_of is_later (edges_from plan n) s.one s.is).0)
@@ -39,31 +39,40 @@ module _ (plan : PlanView) (P : ℕ → Type 0) (keeps : (m d : ℕ) → P m →
   installs_keep d h = installed_keep (count plan) d (filter_out_of (is_installed plan (count plan) n) (nodes plan) d h).1
 
 -- the same of a test
-pub installed_all : (plan : PlanView) (p : ℕ → Bool) → ((m : ℕ) → p m ≡ true → list_all p (depends plan m) ≡ true) → (n : ℕ) → list_all p (depends plan n) ≡ true
+pub installed_all : (plan : PlanView) (p : ℕ → Bool)
+    → ((m : ℕ) → p m ≡ true → list_all p (depends plan m) ≡ true) → (n : ℕ)
+    → list_all p (depends plan n) ≡ true
     → list_all p (installs plan n) ≡ true
 installed_all plan p goes n first =
     passes_all p (installs plan n)
     (installs_keep plan (λ m. p m ≡ true) (λ m d h c. all_passes p (depends plan m) d (goes m h) c) n (λ d c. all_passes p (depends plan n) d first c))
 
-pub installed_are_nodes : (plan : PlanView) (n d : ℕ) → Contains (installs plan n) d → d < count plan
+pub installed_are_nodes : (plan : PlanView) (n d : ℕ) → Contains (installs plan n) d
+    → d < count plan
 installed_are_nodes plan n d h = range_below (count plan) d (filter_out_of (is_installed plan (count plan) n) (nodes plan) d h).0
 
-pub installed_lie_below : (plan : PlanView) (height n d : ℕ) → away plan (suc height) n ≡ true → Contains (installs plan n) d → away plan height d ≡ true
+pub installed_lie_below : (plan : PlanView) (height n d : ℕ) → away plan (suc height) n ≡ true
+    → Contains (installs plan n) d → away plan height d ≡ true
 installed_lie_below plan height n d gone c =
     installs_keep plan (λ m. away plan height m ≡ true) (λ m x h k. depends_away plan height m x h k) n (λ x k. depends_below plan height n x gone k) d c
 
 module _ (plan : PlanView) (n : ℕ) where
-  pub installs_have : (d : ℕ) → d < count plan → is_installed plan (count plan) n d ≡ true → Contains (installs plan n) d
+  pub installs_have : (d : ℕ) → d < count plan → is_installed plan (count plan) n d ≡ true
+      → Contains (installs plan n) d
   installs_have d l h = filter_into (is_installed plan (count plan) n) (nodes plan) d (below_range (count plan) d l) h
 
-  pub installs_are : (d : ℕ) → Contains (installs plan n) d → is_installed plan (count plan) n d ≡ true
+  pub installs_are : (d : ℕ) → Contains (installs plan n) d
+      → is_installed plan (count plan) n d ≡ true
   installs_are d h = (filter_out_of (is_installed plan (count plan) n) (nodes plan) d h).1
 
-  pub installed_first : (d : ℕ) → Contains (depends plan n) d → is_installed plan (count plan) n d ≡ true
+  pub installed_first : (d : ℕ) → Contains (depends plan n) d
+      → is_installed plan (count plan) n d ≡ true
   installed_first d c = grown_first (has (depends plan n)) (λ m x. has (later_depends plan m) x) (nodes plan) (count plan) d (contains_has (depends plan n) d c)
 
   -- all that is installed brings what it needs later
-  pub installed_later : (m d : ℕ) → m < count plan → d < count plan → is_installed plan (count plan) n m ≡ true → Contains (later_depends plan m) d → is_installed plan (count plan) n d ≡ true
+  pub installed_later : (m d : ℕ) → m < count plan → d < count plan
+      → is_installed plan (count plan) n m ≡ true → Contains (later_depends plan m) d
+      → is_installed plan (count plan) n d ≡ true
   installed_later m d l b h c =
       let size : length (nodes plan) ≡ count plan = length-range_with_len 0 (count plan) in
       subst (λ rounds. is_installed plan rounds n d ≡ true) size
@@ -71,10 +80,13 @@ module _ (plan : PlanView) (n : ℕ) where
       (grown_adds (has (depends plan n)) (λ y x. has (later_depends plan y) x) (nodes plan) (length (nodes plan)) m d (below_range (count plan) m l)
       (subst (λ rounds. is_installed plan rounds n m ≡ true) (sym size) h) (contains_has (later_depends plan m) d c)))
 
-pub depends_are_installed : (plan : PlanView) → IsPlan plan → (n d : ℕ) → n < count plan → Contains (depends plan n) d → Contains (installs plan n) d
+pub depends_are_installed : (plan : PlanView) → IsPlan plan → (n d : ℕ) → n < count plan
+    → Contains (depends plan n) d → Contains (installs plan n) d
 depends_are_installed plan is n d l c = installs_have plan n d (target_below plan is n d l c) (installed_first plan n d c)
 
-pub installs_are_closed : (plan : PlanView) → IsPlan plan → (n m d : ℕ) → Contains (installs plan n) m → Contains (later_depends plan m) d → Contains (installs plan n) d
+pub installs_are_closed : (plan : PlanView) → IsPlan plan → (n m d : ℕ)
+    → Contains (installs plan n) m → Contains (later_depends plan m) d
+    → Contains (installs plan n) d
 installs_are_closed plan is n m d c h =
     let l : m < count plan = installed_are_nodes plan n m c in
     let b : d < count plan = target_below plan is m d l (later_depends_are plan m d h) in

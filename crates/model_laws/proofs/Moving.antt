@@ -17,7 +17,9 @@ use Rattle.model_laws.proofs.Ordered.{filter_order, same_order}
 
 module _ (all : List PackageView) (names : HasNames all) where
   -- a recorded dependency means the same package in each set
-  pub means : (some : List PackageView) → IsWithin some all → IsClosed some → (p : PackageView) (depend : Recorded) (q : PackageView) → Contains some p → Contains p.depends depend → Contains all q
+  pub means : (some : List PackageView) → IsWithin some all → IsClosed some
+      → (p : PackageView) (depend : Recorded) (q : PackageView) → Contains some p
+      → Contains p.depends depend → Contains all q
       → is_recorded_as depend q ≡ true → Contains some q
   means some within closed p depend q c d m r =
       let t : Meant some depend = meant_in some p depend (closed p c) d in
@@ -33,7 +35,8 @@ module _ (all : List PackageView) (names : HasNames all) where
         let there : Contains other q = means other other_in closed by depend q before.0 c (some_in q m) r in
         (there, later depend before.1 c late there r)
 
-  pub installs_move : (some other : List PackageView) → IsWithin some all → IsWithin other all → IsClosed some → IsClosed other → (p : PackageView) → Contains some p → Contains other p
+  pub installs_move : (some other : List PackageView) → IsWithin some all → IsWithin other all
+      → IsClosed some → IsClosed other → (p : PackageView) → Contains some p → Contains other p
       → (packages : List PackageView) → AreInstalls some p packages → AreInstalls other p packages
   installs_move some other some_in other_in closed other_closed p c d packages are = record {
     order = are.order;
@@ -41,7 +44,9 @@ module _ (all : List PackageView) (names : HasNames all) where
     all = λ q i. are.all q (move other some other_in some_in closed p c q i).1;
   }
 
-  pub made_moves : (runs : Runs) (table : List Recipe) (some other : List PackageView) → IsWithin some all → IsWithin other all → IsClosed some → IsClosed other → (p : PackageView) → Contains some p
+  pub made_moves : (runs : Runs) (table : List Recipe) (some other : List PackageView)
+      → IsWithin some all → IsWithin other all → IsClosed some → IsClosed other → (p : PackageView)
+      → Contains some p
       → Contains other p → IsMade runs table some p → IsMade runs table other p
   made_moves runs table some other some_in other_in closed other_closed p c d made = record {
     recipe = made.recipe;
@@ -53,7 +58,8 @@ module _ (all : List PackageView) (names : HasNames all) where
   }
 
 -- there is one list of what is installed
-pub one_list : (members : List PackageView) (p : PackageView) (some other : List PackageView) → AreInstalls members p some → AreInstalls members p other → some ≡ other
+pub one_list : (members : List PackageView) (p : PackageView) (some other : List PackageView)
+    → AreInstalls members p some → AreInstalls members p other → some ≡ other
 one_list members p some other f g = same_order some other f.order g.order (λ q c. g.all q (f.only q c)) (λ q c. f.all q (g.only q c))
 
 -- ---- by rounds
@@ -65,7 +71,8 @@ module _ (members : List PackageView) (p : PackageView) where
   abbrev among : ℕ → PackageView → Bool
   among rounds q = grown (is_depend p.depends) (λ m x. is_depend (later_records m) x) members rounds q
 
-  only_installed : (rounds : ℕ) (q : PackageView) → Contains members q → among rounds q ≡ true → Installed members p q
+  only_installed : (rounds : ℕ) (q : PackageView) → Contains members q → among rounds q ≡ true
+      → Installed members p q
   only_installed zero q c h =
       let m : Member (λ depend. is_recorded_as depend q) p.depends = any_member (λ depend. is_recorded_as depend q) p.depends h in
       direct m.one m.is c m.does
@@ -80,7 +87,8 @@ module _ (members : List PackageView) (p : PackageView) where
             later m.one (only_installed rounds by.one by.is both.0) is.0 is.1 c m.does)
       ]
 
-  all_installed : (q : PackageView) → Installed members p q → Contains members q × (among (length members) q ≡ true)
+  all_installed : (q : PackageView) → Installed members p q
+      → Contains members q × (among (length members) q ≡ true)
   all_installed q (direct depend c m r) =
       (m, grown_first (is_depend p.depends) (λ y x. is_depend (later_records y) x) members (length members) q (member_any (λ d. is_recorded_as d q) p.depends depend c r))
   all_installed q (later {m = by} depend i c late m r) =

@@ -1,5 +1,5 @@
 -- Packages in order, by node, then name.
-use Rattle.std.proofs.Common.{◌≡◌, ℕ, Bool, true, false, List, [], ◌∷◌, refl, ap, sym, subst, ◌∙◌, cond, inl, inr, ◌⊎◌}
+use Rattle.std.proofs.Common.{◌≡◌, Bool, true, false, List, [], ◌∷◌, refl, ap, sym, subst, ◌∙◌, cond, inl, inr, ◌⊎◌}
 use Rattle.std.specs.Prelude.{map, filter, bytes_eq, Contains}
 use Rattle.std.specs.List.{AllByRecursion, IsDistinct, fold}
 use Rattle.std.specs.List.Sorted.{IsStrictlySortedBy}
@@ -25,16 +25,19 @@ pub never_both : (a b : PackageView) → package_cmp a b ≡ Less → package_cm
 never_both a b f g = let no : Less ≡ Greater = sym f ∙ package_total.antisymm a b ∙ ap ordering_reverse g in cc
 
 -- what a list by recursion has of all it has of each member
-recursion_at : {X : Type 0} (P : X → Type 0) (xs : List X) (x : X) → AllByRecursion P xs → Contains xs x → P x
+recursion_at : {X : Type 0} (P : X → Type 0) (xs : List X) (x : X) → AllByRecursion P xs
+    → Contains xs x → P x
 recursion_at P [] x all c = absurd (contains_none x c)
 recursion_at P (y ∷ xs) x all c = elim (contains_cases y xs x c) [ inl e ↦ subst P e all.0 | inr m ↦ recursion_at P xs x all.1 m ]
 
-recursion_from : {X : Type 0} (P : X → Type 0) (xs : List X) → ((x : X) → Contains xs x → P x) → AllByRecursion P xs
+recursion_from : {X : Type 0} (P : X → Type 0) (xs : List X) → ((x : X) → Contains xs x → P x)
+    → AllByRecursion P xs
 recursion_from P [] each = tt
 recursion_from P (x ∷ xs) each = (each x (contains_here x xs), recursion_from P xs (λ y c. each y (contains_more x xs y c)))
 
 -- a list in order: its first comes before each other, and the others are in order
-pub first_before : (p : PackageView) (ps : List PackageView) → AreInOrder (p ∷ ps) → (q : PackageView) → Contains ps q → package_cmp p q ≡ Less
+pub first_before : (p : PackageView) (ps : List PackageView) → AreInOrder (p ∷ ps)
+    → (q : PackageView) → Contains ps q → package_cmp p q ≡ Less
 unfolding IsStrictlySortedBy
 first_before p ps h q c = recursion_at (λ r. package_cmp p r ≡ Less) ps q h.0 c
 
@@ -42,7 +45,9 @@ pub rest_order : (p : PackageView) (ps : List PackageView) → AreInOrder (p ∷
 unfolding IsStrictlySortedBy
 rest_order p ps h = h.1
 
-pub order_from : (p : PackageView) (ps : List PackageView) → ((q : PackageView) → Contains ps q → package_cmp p q ≡ Less) → AreInOrder ps → AreInOrder (p ∷ ps)
+pub order_from : (p : PackageView) (ps : List PackageView)
+    → ((q : PackageView) → Contains ps q → package_cmp p q ≡ Less) → AreInOrder ps
+    → AreInOrder (p ∷ ps)
 unfolding IsStrictlySortedBy
 order_from p ps first rest = (recursion_from (λ r. package_cmp p r ≡ Less) ps first, rest)
 
@@ -51,25 +56,31 @@ unfolding IsStrictlySortedBy
 none_order = tt
 
 -- a filter keeps the order
-pub filter_order : (test : PackageView → Bool) (ps : List PackageView) → AreInOrder ps → AreInOrder (filter test ps)
+pub filter_order : (test : PackageView → Bool) (ps : List PackageView) → AreInOrder ps
+    → AreInOrder (filter test ps)
 filter_order test ps h = IsStrictlySortedBy-filter package_cmp test ps h
 
 -- two lists in order with the same members are one
-first_same : (p q : PackageView) (ps qs : List PackageView) → AreInOrder (p ∷ ps) → AreInOrder (q ∷ qs) → Contains (q ∷ qs) p → Contains (p ∷ ps) q → p ≡ q
+first_same : (p q : PackageView) (ps qs : List PackageView) → AreInOrder (p ∷ ps)
+    → AreInOrder (q ∷ qs) → Contains (q ∷ qs) p → Contains (p ∷ ps) q → p ≡ q
 first_same p q ps qs f g c d =
     elim (contains_cases q qs p c) [
       | inl e ↦ sym e
       | inr m ↦ elim (contains_cases p ps q d) [ inl e ↦ e | inr n ↦ absurd (never_both q p (first_before q qs g p m) (first_before p ps f q n)) ]
     ]
 
-rest_same : (p q : PackageView) (ps qs : List PackageView) → AreInOrder (p ∷ ps) → p ≡ q → ((r : PackageView) → Contains (p ∷ ps) r → Contains (q ∷ qs) r) → (r : PackageView) → Contains ps r → Contains qs r
+rest_same : (p q : PackageView) (ps qs : List PackageView) → AreInOrder (p ∷ ps) → p ≡ q
+    → ((r : PackageView) → Contains (p ∷ ps) r → Contains (q ∷ qs) r) → (r : PackageView)
+    → Contains ps r → Contains qs r
 rest_same p q ps qs f e into r c =
     elim (contains_cases q qs r (into r (contains_more p ps r c))) [
       | inl same ↦ absurd (let b : package_cmp r r ≡ Less = subst (λ z. package_cmp z r ≡ Less) (e ∙ same) (first_before p ps f r c) in never_both r r b b)
       | inr m ↦ m
     ]
 
-pub same_order : (ps qs : List PackageView) → AreInOrder ps → AreInOrder qs → ((r : PackageView) → Contains ps r → Contains qs r) → ((r : PackageView) → Contains qs r → Contains ps r) → ps ≡ qs
+pub same_order : (ps qs : List PackageView) → AreInOrder ps → AreInOrder qs
+    → ((r : PackageView) → Contains ps r → Contains qs r)
+    → ((r : PackageView) → Contains qs r → Contains ps r) → ps ≡ qs
 same_order [] [] f g into back = refl
 same_order [] (q ∷ qs) f g into back = absurd (contains_none q (back q (contains_here q qs)))
 same_order (p ∷ ps) [] f g into back = absurd (contains_none p (into p (contains_here p ps)))
@@ -80,7 +91,8 @@ same_order (p ∷ ps) (q ∷ qs) f g into back =
 
 -- ---- a package placed among others
 
-into_case : (p q : PackageView) (ps placed : List PackageView) (r : PackageView) (b : Bool) → (Contains (p ∷ ps) r → Contains placed r) → (p ≡ r) ⊎ ((q ≡ r) ⊎ Contains ps r)
+into_case : (p q : PackageView) (ps placed : List PackageView) (r : PackageView) (b : Bool)
+    → (Contains (p ∷ ps) r → Contains placed r) → (p ≡ r) ⊎ ((q ≡ r) ⊎ Contains ps r)
     → Contains (cond b (p ∷ q ∷ ps) (q ∷ placed)) r
 into_case p q ps placed r true more (inl e) = subst (λ z. Contains (p ∷ q ∷ ps) z) e (contains_here p (q ∷ ps))
 into_case p q ps placed r true more (inr (inl e)) = contains_more p (q ∷ ps) r (subst (λ z. Contains (q ∷ ps) z) e (contains_here q ps))
@@ -89,14 +101,18 @@ into_case p q ps placed r false more (inl e) = contains_more q placed r (more (s
 into_case p q ps placed r false more (inr (inl e)) = subst (λ z. Contains (q ∷ placed) z) e (contains_here q placed)
 into_case p q ps placed r false more (inr (inr c)) = contains_more q placed r (more (contains_more p ps r c))
 
-where_in : (p q : PackageView) (ps : List PackageView) (r : PackageView) → Contains (p ∷ q ∷ ps) r → (p ≡ r) ⊎ ((q ≡ r) ⊎ Contains ps r)
+where_in : (p q : PackageView) (ps : List PackageView) (r : PackageView) → Contains (p ∷ q ∷ ps) r
+    → (p ≡ r) ⊎ ((q ≡ r) ⊎ Contains ps r)
 where_in p q ps r c = elim (contains_cases p (q ∷ ps) r c) [ inl e ↦ inl e | inr m ↦ inr (contains_cases q ps r m) ]
 
-pub place_into : (p : PackageView) (ps : List PackageView) (r : PackageView) → Contains (p ∷ ps) r → Contains (place p ps) r
+pub place_into : (p : PackageView) (ps : List PackageView) (r : PackageView) → Contains (p ∷ ps) r
+    → Contains (place p ps) r
 place_into p [] r c = c
 place_into p (q ∷ ps) r c = into_case p q ps (place p ps) r (is_lt (package_cmp p q)) (place_into p ps r) (where_in p q ps r c)
 
-out_case : (p q : PackageView) (ps placed : List PackageView) (r : PackageView) (b : Bool) → (Contains placed r → Contains (p ∷ ps) r) → Contains (cond b (p ∷ q ∷ ps) (q ∷ placed)) r → Contains (p ∷ q ∷ ps) r
+out_case : (p q : PackageView) (ps placed : List PackageView) (r : PackageView) (b : Bool)
+    → (Contains placed r → Contains (p ∷ ps) r) → Contains (cond b (p ∷ q ∷ ps) (q ∷ placed)) r
+    → Contains (p ∷ q ∷ ps) r
 out_case p q ps placed r true more c = c
 out_case p q ps placed r false more c =
     elim (contains_cases q placed r c) [
@@ -108,7 +124,8 @@ out_case p q ps placed r false more c =
           ]
     ]
 
-pub place_out_of : (p : PackageView) (ps : List PackageView) (r : PackageView) → Contains (place p ps) r → Contains (p ∷ ps) r
+pub place_out_of : (p : PackageView) (ps : List PackageView) (r : PackageView)
+    → Contains (place p ps) r → Contains (p ∷ ps) r
 place_out_of p [] r c = c
 place_out_of p (q ∷ ps) r c = out_case p q ps (place p ps) r (is_lt (package_cmp p q)) (place_out_of p ps r) c
 
@@ -122,7 +139,8 @@ greater_of Less e apart = absurd (cc e)
 greater_of Equal e apart = absurd (apart refl)
 greater_of Greater e apart = refl
 
-place_case : (p q : PackageView) (ps : List PackageView) (b : Bool) → is_lt (package_cmp p q) ≡ b → AreInOrder (q ∷ ps) → (package_cmp p q ≡ Equal → ⊥) → AreInOrder (place p ps)
+place_case : (p q : PackageView) (ps : List PackageView) (b : Bool) → is_lt (package_cmp p q) ≡ b
+    → AreInOrder (q ∷ ps) → (package_cmp p q ≡ Equal → ⊥) → AreInOrder (place p ps)
     → AreInOrder (cond b (p ∷ q ∷ ps) (q ∷ place p ps))
 place_case p q ps true e order apart rest =
     let first : package_cmp p q ≡ Less = less_of (package_cmp p q) e in
@@ -135,7 +153,8 @@ place_case p q ps false e order apart rest =
     (λ r c. elim (contains_cases p ps r (place_out_of p ps r c)) [ inl same ↦ subst (λ z. package_cmp q z ≡ Less) same first | inr m ↦ first_before q ps order r m ])
     rest
 
-pub place_order : (p : PackageView) (ps : List PackageView) → AreInOrder ps → ((q : PackageView) → Contains ps q → package_cmp p q ≡ Equal → ⊥) → AreInOrder (place p ps)
+pub place_order : (p : PackageView) (ps : List PackageView) → AreInOrder ps
+    → ((q : PackageView) → Contains ps q → package_cmp p q ≡ Equal → ⊥) → AreInOrder (place p ps)
 place_order p [] order apart = order_from p [] (λ q c. absurd (contains_none q c)) none_order
 place_order p (q ∷ ps) order apart =
     place_case p q ps (is_lt (package_cmp p q)) refl order (apart q (contains_here q ps))
@@ -146,7 +165,8 @@ place_order p (q ∷ ps) order apart =
 abbrev all_placed : List PackageView → List PackageView → List PackageView
 all_placed done ps = fold (λ placed p. place p placed) done ps
 
-placed_into : (done ps : List PackageView) (r : PackageView) → Contains done r ⊎ Contains ps r → Contains (all_placed done ps) r
+placed_into : (done ps : List PackageView) (r : PackageView) → Contains done r ⊎ Contains ps r
+    → Contains (all_placed done ps) r
 placed_into done [] r (inl c) = c
 placed_into done [] r (inr c) = absurd (contains_none r c)
 placed_into done (p ∷ ps) r (inl c) = placed_into (place p done) ps r (inl (place_into p done r (contains_more p done r c)))
@@ -156,7 +176,8 @@ placed_into done (p ∷ ps) r (inr c) =
       | inr m ↦ placed_into (place p done) ps r (inr m)
     ]
 
-placed_out_of : (done ps : List PackageView) (r : PackageView) → Contains (all_placed done ps) r → Contains done r ⊎ Contains ps r
+placed_out_of : (done ps : List PackageView) (r : PackageView) → Contains (all_placed done ps) r
+    → Contains done r ⊎ Contains ps r
 placed_out_of done [] r c = inl c
 placed_out_of done (p ∷ ps) r c =
     elim (placed_out_of (place p done) ps r c) [
@@ -168,10 +189,12 @@ placed_out_of done (p ∷ ps) r c =
       | inr m ↦ inr (contains_more p ps r m)
     ]
 
-pub by_node_into : (members : List PackageView) (p : PackageView) → Contains members p → Contains (by_node members) p
+pub by_node_into : (members : List PackageView) (p : PackageView) → Contains members p
+    → Contains (by_node members) p
 by_node_into members p c = placed_into [] members p (inr c)
 
-pub by_node_out_of : (members : List PackageView) (p : PackageView) → Contains (by_node members) p → Contains members p
+pub by_node_out_of : (members : List PackageView) (p : PackageView) → Contains (by_node members) p
+    → Contains members p
 by_node_out_of members p c = elim (placed_out_of [] members p c) [ inl none ↦ absurd (contains_none p none) | inr m ↦ m ]
 
 -- ---- distinct names
@@ -185,7 +208,8 @@ same_second Greater b e = absurd (cc e)
 pub same_name : (p q : PackageView) → package_cmp p q ≡ Equal → p.name ≡ q.name
 same_name p q e = exact_bytes p.name q.name (same_second (slice_cmp nat_cmp (node_of_package p) (node_of_package q)) (slice_cmp nat_cmp p.name q.name) e)
 
-first_apart : (p : PackageView) (ps : List PackageView) → HasOwnNames (p ∷ ps) → (q : PackageView) → Contains ps q → p.name ≡ q.name → ⊥
+first_apart : (p : PackageView) (ps : List PackageView) → HasOwnNames (p ∷ ps) → (q : PackageView)
+    → Contains ps q → p.name ≡ q.name → ⊥
 unfolding IsDistinct
 first_apart p ps h q c e =
     let differ : bytes_eq p.name q.name ≡ false =
@@ -213,7 +237,9 @@ own_names_tell (r ∷ members) h p q c d e =
           ]
     ]
 
-placed_order : (done ps : List PackageView) → AreInOrder done → HasOwnNames ps → ((p q : PackageView) → Contains ps p → Contains done q → p.name ≡ q.name → ⊥) → AreInOrder (all_placed done ps)
+placed_order : (done ps : List PackageView) → AreInOrder done → HasOwnNames ps
+    → ((p q : PackageView) → Contains ps p → Contains done q → p.name ≡ q.name → ⊥)
+    → AreInOrder (all_placed done ps)
 placed_order done [] order own apart = order
 placed_order done (p ∷ ps) order own apart =
     placed_order (place p done) ps (place_order p done order (λ q c e. apart p q (contains_here p ps) c (same_name p q e))) (rest_apart p ps own)
@@ -222,5 +248,6 @@ placed_order done (p ∷ ps) order own apart =
       | inr m ↦ apart r q (contains_more p ps r c) m e
     ])
 
-pub members_are_in_order : (members : List PackageView) → HasOwnNames members → AreInOrder (by_node members)
+pub members_are_in_order : (members : List PackageView) → HasOwnNames members
+    → AreInOrder (by_node members)
 members_are_in_order members own = placed_order [] members none_order own (λ p q c none e. contains_none q none)

@@ -1,16 +1,16 @@
 -- Soundness by rounds and soundness of each closed set are one.
-use Rattle.std.proofs.Common.{◌≡◌, List, ap, ◌∙◌}
-use Rattle.std.specs.Prelude.{Contains}
+use Rattle.std.proofs.Common.{List, ap, ◌∙◌}
 use Rattle.bulk_model.specs.Among.{AreInOrder, installs_among}
 use Rattle.bulk_model.specs.Bake.{Runs, bake}
-use Rattle.bulk_model.specs.Sound.{Recipe, IsClosed, IsWithin, HasNames, IsMade, IsSound, by_node, closed_part, IsMadeAmong, IsSoundByRounds}
+use Rattle.bulk_model.specs.Sound.{Recipe, IsWithin, IsMade, IsSound, by_node, closed_part, IsMadeAmong, IsSoundByRounds}
 use Rattle.bulk_model.specs.Views.{PackageView}
 use Rattle.model_laws.specs.Soundness.{HasOwnNames, IsGreatestClosed}
 use Rattle.model_laws.proofs.Closing.{part_within, part_closed, part_is_greatest, part_order}
 use Rattle.model_laws.proofs.Moving.{made_moves, one_list, rounds_install_all}
 use Rattle.model_laws.proofs.Ordered.{by_node_into, by_node_out_of, own_names_tell, members_are_in_order}
 
-pub fewer_stay_sound : (runs : Runs) (table : List Recipe) (members some : List PackageView) → IsSound runs table members → IsWithin some members → IsSound runs table some
+pub fewer_stay_sound : (runs : Runs) (table : List Recipe) (members some : List PackageView)
+    → IsSound runs table members → IsWithin some members → IsSound runs table some
 fewer_stay_sound runs table members some sound within part in_part closed p c = sound part (λ q d. within q (in_part q d)) closed p c
 
 module _ (runs : Runs) (table : List Recipe) (members : List PackageView) (own : HasOwnNames members) where

@@ -19,17 +19,21 @@ is_to_blame Skipped = false
 pub record IsWayOn (plan : PlanView) (statuses : List Status) (n d : ℕ) : Type 0 where
   pub least : least_setback plan statuses n ≡ Some d
   pub below : d < count plan
-  pub leads : cause plan statuses n ≡ (if is_skipped (status_in statuses d) then cause plan statuses d else d)
+  pub leads : cause plan statuses n
+      ≡ (if is_skipped (status_in statuses d) then cause plan statuses d else d)
 
--- the cause of a skipped node is its least dependency without a package, or where that was skipped, that one's cause
+-- the cause of a skipped node is its least dependency without a package, or that one's cause where
+-- it was skipped too
 abbrev pub CausesUnfold : Type 0
 CausesUnfold =
     (plan : PlanView) (statuses : List Status) → IsPlan plan → FitsResults plan statuses
-    → (n : ℕ) → n < count plan → is_skipped (status_in statuses n) ≡ true → (d : ℕ) × IsWayOn plan statuses n d
+    → (n : ℕ) → n < count plan → is_skipped (status_in statuses n) ≡ true
+    → (d : ℕ) × IsWayOn plan statuses n d
 
 -- the cause of a skipped node is a node that failed or is ignored
 abbrev pub CausesAreToBlame : Type 0
 CausesAreToBlame =
     (plan : PlanView) (statuses : List Status) → IsPlan plan → FitsResults plan statuses
     → (n : ℕ) → n < count plan → is_skipped (status_in statuses n) ≡ true
-    → (cause plan statuses n < count plan) × (is_to_blame (status_in statuses (cause plan statuses n)) ≡ true)
+    → (cause plan statuses n < count plan)
+    × (is_to_blame (status_in statuses (cause plan statuses n)) ≡ true)

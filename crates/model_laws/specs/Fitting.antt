@@ -18,19 +18,25 @@ use Rattle.bulk_model.specs.Views.{JobView, PackageView}
 
 -- the results of a plan fit it, whatever the builds give
 abbrev pub ResultsFit : Type 0
-ResultsFit = (bakes : Bakes) (plan : PlanView) (kept : KeptPackages) → IsPlan plan → FitsResults plan (statuses_of bakes plan kept)
+ResultsFit =
+    (bakes : Bakes) (plan : PlanView) (kept : KeptPackages) → IsPlan plan
+    → FitsResults plan (statuses_of bakes plan kept)
 
 -- builds give only packages with the fields of their node's job
 abbrev pub GivesJobs : PlanView → Bakes → Type 0
-GivesJobs plan bakes = (n : ℕ) (packages : List PackageView) → n < count plan → IsOfJob (job_at plan n) (bakes n packages)
+GivesJobs plan bakes =
+    (n : ℕ) (packages : List PackageView) → n < count plan → IsOfJob (job_at plan n) (bakes n packages)
 
 -- then each built package in the results has the fields of its node's job
 abbrev pub BuiltHaveFields : Type 0
 BuiltHaveFields =
-    (bakes : Bakes) (plan : PlanView) (kept : KeptPackages) → IsPlan plan → GivesJobs plan bakes → (n : ℕ) (p : PackageView)
-    → n < count plan → status_in (statuses_of bakes plan kept) n ≡ Built p → HasFieldsOf (job_at plan n) p
+    (bakes : Bakes) (plan : PlanView) (kept : KeptPackages) → IsPlan plan → GivesJobs plan bakes
+    → (n : ℕ) (p : PackageView)
+    → n < count plan → status_in (statuses_of bakes plan kept) n ≡ Built p
+    → HasFieldsOf (job_at plan n) p
 
--- so it is where rooms tell, where every build is taken to succeed, and where outcomes with these fields are given
+-- such are builds where rooms tell, builds that are taken to succeed, and outcomes that are given and
+-- have these fields
 abbrev pub BakesGiveJobs : Type 0
 BakesGiveJobs = (runs : Runs) (plan : PlanView) → GivesJobs plan (bakes_by runs plan)
 
@@ -40,24 +46,31 @@ DryBuildsGiveJobs = (plan : PlanView) → GivesJobs plan (bakes_well plan)
 abbrev pub OutcomesGiveJobs : Type 0
 OutcomesGiveJobs =
     (outcomes : List (Option Outcome)) (plan : PlanView)
-    → ((n : ℕ) (outcome : Outcome) → n < count plan → outcome_at outcomes n ≡ Some outcome → IsOfJob (job_at plan n) outcome)
+    → ((n : ℕ) (outcome : Outcome) → n < count plan → outcome_at outcomes n ≡ Some outcome
+    → IsOfJob (job_at plan n) outcome)
     → GivesJobs plan (bakes_given outcomes)
 
 -- what rooms tell of a build may come of it
 abbrev pub BakeIsBuild : Type 0
 BakeIsBuild =
-    (tells : Bool) (runs : Runs) (base : List FileItem) (job : JobView) (packages : List PackageView)
+    (tells : Bool) (runs : Runs) (base : List FileItem) (job : JobView)
+    (packages : List PackageView)
     → IsBuildOf tells runs base job packages (bake runs base job packages)
 
--- each dependency of a node has a package in these statuses, and so many packages are those that are installed for it
-pub record AreInstalledAt (plan : PlanView) (s : ℕ → Status) (n : ℕ) (packages : List PackageView) : Type 0 where
+-- in these statuses each dependency of a node has a package, and these are the packages of all that is
+-- installed for it
+pub record AreInstalledAt (plan : PlanView) (s : ℕ → Status) (n : ℕ) (packages : List PackageView)
+    : Type 0 where
   pub good : list_all (λ d. is_good (s d)) (depends plan n) ≡ true
   pub those : packages ≡ filter_map (λ d. package_in (s d)) (installs plan n)
 
--- what comes of a right build is right at its node: it was to be built, and where rooms tell, over the packages of the results
+-- what comes of a right build is right at its node: the node was to be built, and where rooms tell, it
+-- was built over the packages of the results
 abbrev pub RightBuildsAreRight : Type 0
 RightBuildsAreRight =
-    (tells : Bool) (runs : Runs) (plan : PlanView) (kept : KeptPackages) (n : ℕ) (packages : List PackageView) (outcome : Outcome)
+    (tells : Bool) (runs : Runs) (plan : PlanView) (kept : KeptPackages) (n : ℕ)
+    (packages : List PackageView) (outcome : Outcome)
     → IsPlan plan → n < count plan → is_kept kept n ≡ false → is_ignored plan n ≡ false
     → (IsTrue tells → AreInstalledAt plan (status_at (bakes_by runs plan) plan kept) n packages)
-    → IsBuildOf tells runs plan.base (job_at plan n) packages outcome → IsOutcomeAt tells runs plan kept n outcome
+    → IsBuildOf tells runs plan.base (job_at plan n) packages outcome
+    → IsOutcomeAt tells runs plan kept n outcome

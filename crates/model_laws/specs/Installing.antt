@@ -5,7 +5,8 @@ use Rattle.bulk_model.specs.Installs.{later_depends, installs}
 use Rattle.bulk_model.specs.PlanFacts.{IsPlan}
 use Rattle.bulk_model.specs.PlanView.{PlanView, count, depends, away}
 
--- what holds of a node's dependencies, and goes from each node to its own, holds of all that is installed for it
+-- what holds of a node's dependencies, and goes from each node to its own, holds of all that is
+-- installed for the node
 abbrev pub InstalledAll : Type 0
 InstalledAll =
     (plan : PlanView) (p : ℕ → Bool) → ((m : ℕ) → p m ≡ true → list_all p (depends plan m) ≡ true)
@@ -17,15 +18,18 @@ InstalledAreNodes = (plan : PlanView) (n d : ℕ) → Contains (installs plan n)
 
 abbrev pub DependsAreInstalled : Type 0
 DependsAreInstalled =
-    (plan : PlanView) → IsPlan plan → (n d : ℕ) → n < count plan → Contains (depends plan n) d → Contains (installs plan n) d
+    (plan : PlanView) → IsPlan plan → (n d : ℕ) → n < count plan → Contains (depends plan n) d
+    → Contains (installs plan n) d
 
 -- what is installed has with it what it needs later: as many rounds as there are nodes are enough
 abbrev pub InstallsAreClosed : Type 0
 InstallsAreClosed =
     (plan : PlanView) → IsPlan plan
-    → (n m d : ℕ) → Contains (installs plan n) m → Contains (later_depends plan m) d → Contains (installs plan n) d
+    → (n m d : ℕ) → Contains (installs plan n) m → Contains (later_depends plan m) d
+    → Contains (installs plan n) d
 
 -- what is installed for a node lies below it
 abbrev pub InstalledLieBelow : Type 0
 InstalledLieBelow =
-    (plan : PlanView) (height n d : ℕ) → away plan (suc height) n ≡ true → Contains (installs plan n) d → away plan height d ≡ true
+    (plan : PlanView) (height n d : ℕ) → away plan (suc height) n ≡ true
+    → Contains (installs plan n) d → away plan height d ≡ true

@@ -16,13 +16,15 @@ Solves bakes plan kept s = (n : ℕ) → n < count plan → s n ≡ status_from 
 -- the results solve their own recursion: no bound is met
 abbrev pub ResultsUnfold : Type 0
 ResultsUnfold =
-    (bakes : Bakes) (plan : PlanView) (kept : KeptPackages) → IsPlan plan → Solves bakes plan kept (status_at bakes plan kept)
+    (bakes : Bakes) (plan : PlanView) (kept : KeptPackages) → IsPlan plan
+    → Solves bakes plan kept (status_at bakes plan kept)
 
 -- whatever solves the recursion is the results
 abbrev pub SolutionsAreResults : Type 0
 SolutionsAreResults =
     (bakes : Bakes) (plan : PlanView) (kept : KeptPackages) → IsPlan plan
-    → (s : ℕ → Status) → Solves bakes plan kept s → (n : ℕ) → n < count plan → s n ≡ status_at bakes plan kept n
+    → (s : ℕ → Status) → Solves bakes plan kept s → (n : ℕ) → n < count plan
+    → s n ≡ status_at bakes plan kept n
 
 -- the results have at each node its status
 abbrev pub ResultsStand : Type 0
@@ -30,9 +32,11 @@ ResultsStand =
     (bakes : Bakes) (plan : PlanView) (kept : KeptPackages) (n : ℕ) → n < count plan
     → status_in (statuses_of bakes plan kept) n ≡ status_at bakes plan kept n
 
--- two lists of outcomes give the same results where they agree at each node that the first's results call built or failed
+-- two lists of outcomes give the same results where they agree at each node that is built or failed
+-- in the results of the first
 abbrev pub OutcomesDecide : Type 0
 OutcomesDecide =
     (a b : List (Option Outcome)) (plan : PlanView) (kept : KeptPackages) → IsPlan plan
-    → ((n : ℕ) → n < count plan → is_tried (status_in (res_given a plan kept) n) ≡ true → outcome_at a n ≡ outcome_at b n)
+    → ((n : ℕ) → n < count plan → is_tried (status_in (res_given a plan kept) n) ≡ true
+    → outcome_at a n ≡ outcome_at b n)
     → res_given a plan kept ≡ res_given b plan kept

@@ -10,7 +10,8 @@ use Rattle.bulk_model.specs.Views.{PackageView}
 pub record IsGreatestClosed (members part : List PackageView) : Type 0 where
   pub within : IsWithin part members
   pub closed : IsClosed part
-  pub greatest : (some : List PackageView) → IsWithin some members → IsClosed some → IsWithin some part
+  pub greatest : (some : List PackageView) → IsWithin some members → IsClosed some
+      → IsWithin some part
 
 -- what rounds leave is the greatest closed part
 abbrev pub ClosedPartIsGreatest : Type 0
@@ -31,15 +32,18 @@ abbrev pub OwnNamesTell : Type 0
 OwnNamesTell = (members : List PackageView) → HasOwnNames members → HasNames members
 
 abbrev pub MembersStay : Type 0
-MembersStay = (members : List PackageView) (p : PackageView) → Contains (by_node members) p ↔ Contains members p
+MembersStay =
+    (members : List PackageView) (p : PackageView) → Contains (by_node members) p ↔ Contains members p
 
 abbrev pub MembersAreInOrder : Type 0
-MembersAreInOrder = (members : List PackageView) → HasOwnNames members → AreInOrder (by_node members)
+MembersAreInOrder =
+    (members : List PackageView) → HasOwnNames members → AreInOrder (by_node members)
 
 -- rounds over members in order give just what is installed for a package, in order
 abbrev pub RoundsInstallAll : Type 0
 RoundsInstallAll =
-    (members : List PackageView) (p : PackageView) → AreInOrder members → AreInstalls members p (installs_among members p)
+    (members : List PackageView) (p : PackageView) → AreInOrder members
+    → AreInstalls members p (installs_among members p)
 
 -- members are sound just where they are sound by rounds
 abbrev pub SoundIsByRounds : Type 0

@@ -1,7 +1,8 @@
 // Why nodes were skipped.
 ghost use Rattle.model_laws.specs.Causes.{CausesUnfold, CausesAreToBlame};
 
-/// The cause of a skipped node is its least dependency without a package, or where that was skipped, that one's cause.
+/// The cause of a skipped node is its least dependency without a package, or that one's cause
+/// where it was skipped too.
 pub fn causes_unfold()
     ensures { CausesUnfold }
 {}

@@ -1,6 +1,12 @@
 // What results have to do with their plan, and builds with results.
 ghost use Rattle.model_laws.specs.Fitting.{
-    ResultsFit, BuiltHaveFields, BakesGiveJobs, DryBuildsGiveJobs, OutcomesGiveJobs, BakeIsBuild, RightBuildsAreRight,
+  ResultsFit,
+  BuiltHaveFields,
+  BakesGiveJobs,
+  DryBuildsGiveJobs,
+  OutcomesGiveJobs,
+  BakeIsBuild,
+  RightBuildsAreRight,
 };
 
 /// The results of a plan fit it, whatever the builds give.
@@ -8,7 +14,8 @@ pub fn results_fit()
     ensures { ResultsFit }
 {}
 
-/// A built package in the results has the fields of its node's job, where the builds only give such packages.
+/// A built package in the results has the fields of its node's job, where the builds only give
+/// such packages.
 pub fn built_have_fields()
     ensures { BuiltHaveFields }
 {}

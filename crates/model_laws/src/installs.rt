@@ -1,7 +1,14 @@
 // What is installed for a build.
-ghost use Rattle.model_laws.specs.Installing.{InstalledAll, InstalledAreNodes, DependsAreInstalled, InstallsAreClosed, InstalledLieBelow};
+ghost use Rattle.model_laws.specs.Installing.{
+  InstalledAll,
+  InstalledAreNodes,
+  DependsAreInstalled,
+  InstallsAreClosed,
+  InstalledLieBelow,
+};
 
-/// What holds of a node's dependencies, and goes from each node to its own, holds of all that is installed for it.
+/// What holds of a node's dependencies, and goes from each node to its own, holds of all that is
+/// installed for the node.
 pub fn installed_all()
     ensures { InstalledAll }
 {}

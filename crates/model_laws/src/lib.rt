@@ -11,14 +11,15 @@ mod soundness;
 pub use causes::{causes_are_to_blame, causes_unfold};
 pub use chains::nine_edges_are_enough;
 pub use fitting::{
-    bake_is_build, bakes_give_jobs, built_have_fields, dry_builds_give_jobs, outcomes_give_jobs, results_fit,
-    right_builds_are_right,
+    bake_is_build, bakes_give_jobs, built_have_fields, dry_builds_give_jobs, outcomes_give_jobs,
+    results_fit, right_builds_are_right,
 };
 pub use installs::{
-    depends_are_installed, installed_all, installed_are_nodes, installed_lie_below, installs_are_closed,
+    depends_are_installed, installed_all, installed_are_nodes, installed_lie_below,
+    installs_are_closed,
 };
 pub use results::{outcomes_decide, results_stand, results_unfold, solutions_are_results};
 pub use soundness::{
-    closed_part_is_greatest, fewer_stay_sound, members_are_in_order, members_stay, own_names_tell, rounds_install_all,
-    sound_is_by_rounds,
+    closed_part_is_greatest, fewer_stay_sound, members_are_in_order, members_stay, own_names_tell,
+    rounds_install_all, sound_is_by_rounds,
 };

@@ -1,5 +1,10 @@
 // What the results of a plan are.
-ghost use Rattle.model_laws.specs.Results.{ResultsUnfold, SolutionsAreResults, ResultsStand, OutcomesDecide};
+ghost use Rattle.model_laws.specs.Results.{
+  ResultsUnfold,
+  SolutionsAreResults,
+  ResultsStand,
+  OutcomesDecide,
+};
 
 /// The results solve their own recursion at every node: its bound is never met.
 pub fn results_unfold()

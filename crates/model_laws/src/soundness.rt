@@ -1,6 +1,12 @@
 // Closed and sound packages.
 ghost use Rattle.model_laws.specs.Soundness.{
-    ClosedPartIsGreatest, FewerStaySound, OwnNamesTell, MembersStay, MembersAreInOrder, RoundsInstallAll, SoundIsByRounds,
+  ClosedPartIsGreatest,
+  FewerStaySound,
+  OwnNamesTell,
+  MembersStay,
+  MembersAreInOrder,
+  RoundsInstallAll,
+  SoundIsByRounds,
 };
 
 /// What rounds leave of members is their greatest closed part.
