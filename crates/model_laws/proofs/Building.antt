@@ -1,6 +1,6 @@
 -- What comes of a build has the fields of its job, and is right at its node where it was over the right packages.
 use Rattle.std.proofs.Common.{◌≡◌, ℕ, ◌<◌, Bool, true, false, List, [], ◌∷◌, refl, ap, sym, subst, ◌∙◌, cond, Option, Some, None}
-use Rattle.std.specs.Prelude.{is_some, IsTrue, ◌==◌}
+use Rattle.std.specs.Prelude.{Contains, is_some, IsTrue, ◌==◌}
 use Rattle.std.specs.List.{list_all, filter_map}
 use Rattle.outside.specs.Contents.{Contents}
 use Rattle.bulk_base.specs.declared.file.FileItem.{FileItem}
@@ -9,6 +9,7 @@ use Rattle.bulk_model.specs.declared.outcome.Outcome.TheVariants.{Built as MadeP
 use Rattle.bulk_model.specs.declared.outcome.Phase.{Phase}
 use Rattle.bulk_model.specs.declared.outcome.Phase.TheVariants.{Depends as DependsPhase}
 use Rattle.bulk_model.specs.declared.plan.Kept.{Kept as KeptPackages}
+use Rattle.bulk_model.specs.declared.results.Status.{Status}
 use Rattle.bulk_model.specs.declared.results.Status.TheVariants.{Ignored, Skipped}
 use Rattle.bulk_model.specs.Bake.{Runs, first_conflict, installed, first_folder, run_all, phases_of, packed, run_phases, bake}
 use Rattle.bulk_model.specs.Baked.{IsOutcomeOf, IsBuildOf, HasFieldsOf, IsOfJob, IsOutcomeAt}
@@ -19,7 +20,11 @@ use Rattle.bulk_model.specs.PlanView.{PlanView, count, depends, is_ignored, job_
 use Rattle.bulk_model.specs.Results.{Bakes, kept_at, is_kept, is_good, package_in, status_of_outcome, status_at, bakes_by}
 use Rattle.bulk_model.specs.Views.{JobView, PackageView}
 use Rattle.bulk_model.proofs.JobFields.{packed_is_outcome, package_has_fields}
-use Rattle.model_laws.specs.Fitting.{GivesJobs, AreInstalledAt}
+use Rattle.model_laws.specs.Fitting.{GivesJobs, AreInstalledAt, AreRightSoFar}
+use Rattle.model_laws.specs.Results.{packages_at}
+use Rattle.model_laws.proofs.Graph.{target_below}
+use Rattle.model_laws.proofs.Installed.{installs_keep}
+use Rattle.bulk_base.proofs.Members.{all_passes, passes_all, filter_map_agree}
 use Rattle.model_laws.proofs.Deciding.{status_with}
 use Rattle.model_laws.proofs.Following.{results_unfold}
 
@@ -92,3 +97,25 @@ right_builds_are_right tells runs plan kept n packages outcome is l k i are buil
   fields = outcome_of_job plan.base (job_at plan n) packages outcome build.fields;
   told = λ t. built_at (bakes_by runs plan) plan kept is n packages l k i (are t) ∙ ap status_of_outcome (sym (build.told t));
 }
+
+-- ---- statuses so far
+
+module _ (bakes : Bakes) (plan : PlanView) (kept : KeptPackages) (s : ℕ → Status) (is : IsPlan plan)
+    (so_far : AreRightSoFar bakes plan kept s) where
+  abbrev IsThere : ℕ → Type 0
+  IsThere n = (n < count plan) × (is_good (s n) ≡ true)
+
+  there_below : (n d : ℕ) → n < count plan → list_all (λ m. is_good (s m)) (depends plan n) ≡ true
+      → Contains (depends plan n) d → IsThere d
+  there_below n d l good c = (target_below plan is n d l c, all_passes (λ m. is_good (s m)) (depends plan n) d good c)
+
+  pub statuses_so_far_install : (n : ℕ) → n < count plan
+      → list_all (λ d. is_good (s d)) (depends plan n) ≡ true
+      → AreInstalledAt plan (status_at bakes plan kept) n (packages_at plan s n)
+  statuses_so_far_install n l good = record {
+    good = passes_all (λ d. is_good (status_at bakes plan kept d)) (depends plan n)
+        (λ d c. let there : IsThere d = there_below n d l good c in sym (ap is_good (so_far.right d there.0 there.1)) ∙ there.1);
+    those = filter_map_agree (λ d. package_in (s d)) (λ d. package_in (status_at bakes plan kept d)) (installs plan n)
+        (λ d c. let there : IsThere d = installs_keep plan IsThere (λ m e h k. there_below m e h.0 (so_far.behind m h.0 h.1) k) n (λ e k. there_below n e l good k) d c in
+        ap package_in (so_far.right d there.0 there.1));
+  }

@@ -6,6 +6,9 @@ use Rattle.std.proofs.lemmas.Bool.{and_parts, or_cases}
 use Rattle.std.proofs.lemmas.List.FromFn.{length-range_with_len}
 use Rattle.bulk_base.proofs.Members.{Member, any_member, all_passes, passes_all, has_contains, contains_has, contains_map, map_contains, Source, filter_out_of, filter_into, range_below, below_range}
 use Rattle.bulk_model.specs.declared.plan.Edge.{Edge}
+use Rattle.bulk_model.specs.declared.plan.Kept.{Kept as KeptPackages}
+use Rattle.bulk_model.specs.Fit.{FitsKept}
+use Rattle.bulk_model.specs.Results.{is_kept}
 use Rattle.bulk_model.specs.Installs.{is_needed_later, later_depends, has, is_installed, installs}
 use Rattle.bulk_model.specs.PlanFacts.{IsPlan}
 use Rattle.bulk_model.specs.PlanView.{PlanView, count, nodes, edges_from, depends, away}
@@ -91,3 +94,16 @@ installs_are_closed plan is n m d c h =
     let l : m < count plan = installed_are_nodes plan n m c in
     let b : d < count plan = target_below plan is m d l (later_depends_are plan m d h) in
     installs_have plan n d b (installed_later plan n m d l b (installs_are plan n m c) h)
+
+-- all that is installed for a kept node is kept
+module _ (plan : PlanView) (kept : KeptPackages) (is : IsPlan plan) (fits : FitsKept plan kept) where
+  abbrev IsKept : ℕ → Type 0
+  IsKept n = (n < count plan) × (is_kept kept n ≡ true)
+
+  kept_below : (n d : ℕ) → IsKept n → Contains (depends plan n) d → IsKept d
+  kept_below n d h c = (target_below plan is n d h.0 c, all_passes (is_kept kept) (depends plan n) d (fits.closed n h.0 h.1) c)
+
+  pub kept_installs_are_kept : (n d : ℕ) → n < count plan → is_kept kept n ≡ true
+      → Contains (installs plan n) d
+      → is_kept kept d ≡ true
+  kept_installs_are_kept n d l k c = (installs_keep plan IsKept kept_below n (λ m b. kept_below n m (l, k) b) d c).1

@@ -1,6 +1,6 @@
 -- Laws on results and their plan, and on builds and what comes of a node.
 use Rattle.std.specs.Prelude.{◌≡◌, ℕ, Bool, true, false, ◌<◌, List, Option, Some, IsTrue}
-use Rattle.std.specs.List.{list_all, filter_map}
+use Rattle.std.specs.List.{list_all}
 use Rattle.bulk_base.specs.declared.file.FileItem.{FileItem}
 use Rattle.bulk_model.specs.declared.outcome.Outcome.{Outcome}
 use Rattle.bulk_model.specs.declared.plan.Kept.{Kept as KeptPackages}
@@ -10,11 +10,11 @@ use Rattle.bulk_model.specs.Bake.{Runs, bake}
 use Rattle.bulk_model.specs.Baked.{IsBuildOf, HasFieldsOf, IsOfJob, IsOutcomeAt}
 use Rattle.bulk_model.specs.DryLists.{bakes_well}
 use Rattle.bulk_model.specs.Fit.{FitsResults, status_in, outcome_at}
-use Rattle.bulk_model.specs.Installs.{installs}
 use Rattle.bulk_model.specs.PlanFacts.{IsPlan}
 use Rattle.bulk_model.specs.PlanView.{PlanView, count, depends, is_ignored, job_at}
-use Rattle.bulk_model.specs.Results.{Bakes, is_kept, is_good, package_in, status_at, statuses_of, bakes_by, bakes_given}
+use Rattle.bulk_model.specs.Results.{Bakes, is_kept, is_good, status_at, statuses_of, bakes_by, bakes_given}
 use Rattle.bulk_model.specs.Views.{JobView, PackageView}
+use Rattle.model_laws.specs.Results.{packages_at}
 
 -- the results of a plan fit it, whatever the builds give
 abbrev pub ResultsFit : Type 0
@@ -25,7 +25,8 @@ ResultsFit =
 -- builds give only packages with the fields of their node's job
 abbrev pub GivesJobs : PlanView → Bakes → Type 0
 GivesJobs plan bakes =
-    (n : ℕ) (packages : List PackageView) → n < count plan → IsOfJob (job_at plan n) (bakes n packages)
+    (n : ℕ) (packages : List PackageView) → n < count plan
+    → IsOfJob (job_at plan n) (bakes n packages)
 
 -- then each built package in the results has the fields of its node's job
 abbrev pub BuiltHaveFields : Type 0
@@ -62,7 +63,7 @@ BakeIsBuild =
 pub record AreInstalledAt (plan : PlanView) (s : ℕ → Status) (n : ℕ) (packages : List PackageView)
     : Type 0 where
   pub good : list_all (λ d. is_good (s d)) (depends plan n) ≡ true
-  pub those : packages ≡ filter_map (λ d. package_in (s d)) (installs plan n)
+  pub those : packages ≡ packages_at plan s n
 
 -- what comes of a right build is right at its node: the node was to be built, and where rooms tell, it
 -- was built over the packages of the results
@@ -74,3 +75,18 @@ RightBuildsAreRight =
     → (IsTrue tells → AreInstalledAt plan (status_at (bakes_by runs plan) plan kept) n packages)
     → IsBuildOf tells runs plan.base (job_at plan n) packages outcome
     → IsOutcomeAt tells runs plan kept n outcome
+
+-- statuses so far: where they have a package, they are right, and have one of each dependency
+pub record AreRightSoFar (bakes : Bakes) (plan : PlanView) (kept : KeptPackages) (s : ℕ → Status)
+    : Type 0 where
+  pub right : (n : ℕ) → n < count plan → is_good (s n) ≡ true → s n ≡ status_at bakes plan kept n
+  pub behind : (n : ℕ) → n < count plan → is_good (s n) ≡ true
+      → list_all (λ d. is_good (s d)) (depends plan n) ≡ true
+
+-- they have the right packages for each build all of whose dependencies they have
+abbrev pub StatusesSoFarInstall : Type 0
+StatusesSoFarInstall =
+    (bakes : Bakes) (plan : PlanView) (kept : KeptPackages) (s : ℕ → Status) → IsPlan plan
+    → AreRightSoFar bakes plan kept s → (n : ℕ) → n < count plan
+    → list_all (λ d. is_good (s d)) (depends plan n) ≡ true
+    → AreInstalledAt plan (status_at bakes plan kept) n (packages_at plan s n)

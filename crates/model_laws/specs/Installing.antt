@@ -1,9 +1,12 @@
 -- Laws on what is installed for a build.
 use Rattle.std.specs.Prelude.{◌≡◌, ℕ, suc, Bool, true, ◌<◌, Contains}
 use Rattle.std.specs.List.{list_all}
+use Rattle.bulk_model.specs.declared.plan.Kept.{Kept as KeptPackages}
+use Rattle.bulk_model.specs.Fit.{FitsKept}
 use Rattle.bulk_model.specs.Installs.{later_depends, installs}
 use Rattle.bulk_model.specs.PlanFacts.{IsPlan}
 use Rattle.bulk_model.specs.PlanView.{PlanView, count, depends, away}
+use Rattle.bulk_model.specs.Results.{is_kept}
 
 -- what holds of a node's dependencies, and goes from each node to its own, holds of all that is
 -- installed for the node
@@ -33,3 +36,10 @@ abbrev pub InstalledLieBelow : Type 0
 InstalledLieBelow =
     (plan : PlanView) (height n d : ℕ) → away plan (suc height) n ≡ true
     → Contains (installs plan n) d → away plan height d ≡ true
+
+-- all that is installed for a kept node is kept
+abbrev pub KeptInstallsAreKept : Type 0
+KeptInstallsAreKept =
+    (plan : PlanView) (kept : KeptPackages) → IsPlan plan → FitsKept plan kept
+    → (n d : ℕ) → n < count plan → is_kept kept n ≡ true → Contains (installs plan n) d
+    → is_kept kept d ≡ true

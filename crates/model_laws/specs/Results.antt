@@ -1,13 +1,20 @@
 -- Laws on the results of a plan.
-use Rattle.std.specs.Prelude.{◌≡◌, ℕ, true, ◌<◌, List, Option}
+use Rattle.std.specs.Prelude.{◌≡◌, ℕ, true, ◌<◌, List, Option, Some}
+use Rattle.std.specs.List.{filter_map}
 use Rattle.bulk_model.specs.declared.outcome.Outcome.{Outcome}
 use Rattle.bulk_model.specs.declared.plan.Kept.{Kept as KeptPackages}
 use Rattle.bulk_model.specs.declared.results.Status.{Status}
 use Rattle.bulk_model.specs.Fit.{status_in, outcome_at}
+use Rattle.bulk_model.specs.Installs.{installs}
 use Rattle.bulk_model.specs.Order.{is_tried}
 use Rattle.bulk_model.specs.PlanFacts.{IsPlan}
 use Rattle.bulk_model.specs.PlanView.{PlanView, count}
-use Rattle.bulk_model.specs.Results.{Bakes, status_from, status_at, statuses_of, res_given}
+use Rattle.bulk_model.specs.Results.{Bakes, package_in, status_of_outcome, status_from, status_at, statuses_of, res_given}
+use Rattle.bulk_model.specs.Views.{PackageView}
+
+-- the packages of all that is installed for a node, as far as statuses have them
+abbrev pub packages_at : PlanView → (ℕ → Status) → ℕ → List PackageView
+packages_at plan s n = filter_map (λ d. package_in (s d)) (installs plan n)
 
 -- at each node the status is the one that follows from those of the others
 abbrev pub Solves : Bakes → PlanView → KeptPackages → (ℕ → Status) → Type 0
@@ -40,3 +47,13 @@ OutcomesDecide =
     → ((n : ℕ) → n < count plan → is_tried (status_in (res_given a plan kept) n) ≡ true
     → outcome_at a n ≡ outcome_at b n)
     → res_given a plan kept ≡ res_given b plan kept
+
+-- so outcomes that are right at each node that was built give the results
+abbrev pub RightOutcomesTell : Type 0
+RightOutcomesTell =
+    (bakes : Bakes) (plan : PlanView) (kept : KeptPackages) (outcomes : List (Option Outcome))
+    → IsPlan plan
+    → ((n : ℕ) → n < count plan → is_tried (status_at bakes plan kept n) ≡ true
+    → (outcome : Outcome) × (outcome_at outcomes n ≡ Some outcome)
+    × (status_at bakes plan kept n ≡ status_of_outcome outcome))
+    → res_given outcomes plan kept ≡ statuses_of bakes plan kept

@@ -33,7 +33,8 @@ OwnNamesTell = (members : List PackageView) → HasOwnNames members → HasNames
 
 abbrev pub MembersStay : Type 0
 MembersStay =
-    (members : List PackageView) (p : PackageView) → Contains (by_node members) p ↔ Contains members p
+    (members : List PackageView) (p : PackageView)
+    → Contains (by_node members) p ↔ Contains members p
 
 abbrev pub MembersAreInOrder : Type 0
 MembersAreInOrder =

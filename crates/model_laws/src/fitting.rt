@@ -7,6 +7,7 @@ ghost use Rattle.model_laws.specs.Fitting.{
   OutcomesGiveJobs,
   BakeIsBuild,
   RightBuildsAreRight,
+  StatusesSoFarInstall,
 };
 
 /// The results of a plan fit it, whatever the builds give.
@@ -43,4 +44,10 @@ pub fn bake_is_build()
 /// What comes of a right build is right at its node.
 pub fn right_builds_are_right()
     ensures { RightBuildsAreRight }
+{}
+
+/// Statuses so far that are right where they have a package have the right packages for each build
+/// all of whose dependencies they have.
+pub fn statuses_so_far_install()
+    ensures { StatusesSoFarInstall }
 {}

@@ -5,6 +5,7 @@ ghost use Rattle.model_laws.specs.Installing.{
   DependsAreInstalled,
   InstallsAreClosed,
   InstalledLieBelow,
+  KeptInstallsAreKept,
 };
 
 /// What holds of a node's dependencies, and goes from each node to its own, holds of all that is
@@ -31,4 +32,9 @@ pub fn installs_are_closed()
 /// What is installed for a node lies below it.
 pub fn installed_lie_below()
     ensures { InstalledLieBelow }
+{}
+
+/// All that is installed for a kept node is kept.
+pub fn kept_installs_are_kept()
+    ensures { KeptInstallsAreKept }
 {}

@@ -4,6 +4,7 @@ ghost use Rattle.model_laws.specs.Results.{
   SolutionsAreResults,
   ResultsStand,
   OutcomesDecide,
+  RightOutcomesTell,
 };
 
 /// The results solve their own recursion at every node: its bound is never met.
@@ -24,4 +25,9 @@ pub fn results_stand()
 /// Outcomes that agree at each node that was built give the same results.
 pub fn outcomes_decide()
     ensures { OutcomesDecide }
+{}
+
+/// Outcomes that are right at each node that was built give the results.
+pub fn right_outcomes_tell()
+    ensures { RightOutcomesTell }
 {}
