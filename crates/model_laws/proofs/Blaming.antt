@@ -13,7 +13,7 @@ use Rattle.bulk_model.specs.Fit.{FitsResults, status_in, is_skipped}
 use Rattle.bulk_model.specs.PlanFacts.{IsPlan}
 use Rattle.bulk_model.specs.PlanView.{PlanView, count, depends, away}
 use Rattle.bulk_model.specs.Results.{is_good}
-use Rattle.model_laws.specs.Causes.{is_to_blame, IsWayOn}
+use Rattle.model_laws.specs.Results.{is_to_blame, IsWayOn}
 use Rattle.model_laws.proofs.Graph.{target_below, all_away, depends_below}
 
 -- the least of some numbers is one of them

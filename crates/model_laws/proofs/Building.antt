@@ -20,10 +20,9 @@ use Rattle.bulk_model.specs.PlanView.{PlanView, count, depends, is_ignored, job_
 use Rattle.bulk_model.specs.Results.{Bakes, kept_at, is_kept, is_good, package_in, status_of_outcome, status_at, bakes_by}
 use Rattle.bulk_model.specs.Views.{JobView, PackageView}
 use Rattle.bulk_model.proofs.JobFields.{packed_is_outcome, package_has_fields}
-use Rattle.model_laws.specs.Fitting.{GivesJobs, AreInstalledAt, AreRightSoFar}
+use Rattle.model_laws.specs.Builds.{GivesJobs, AreInstalledAt, AreRightSoFar}
 use Rattle.model_laws.specs.Results.{packages_at}
-use Rattle.model_laws.proofs.Graph.{target_below}
-use Rattle.model_laws.proofs.Installed.{installs_keep}
+use Rattle.model_laws.proofs.Graph.{target_below, installs_keep}
 use Rattle.bulk_base.proofs.Members.{all_passes, passes_all, filter_map_agree}
 use Rattle.model_laws.proofs.Deciding.{status_with}
 use Rattle.model_laws.proofs.Following.{results_unfold}

@@ -17,7 +17,7 @@ use Rattle.bulk_model.specs.PlanFacts.{IsPlan}
 use Rattle.bulk_model.specs.PlanView.{PlanView, count, depends, is_ignored, job_at}
 use Rattle.bulk_model.specs.Results.{Bakes, kept_at, is_good, package_in, status_of_outcome, status_at, statuses_of, bakes_given}
 use Rattle.bulk_model.specs.Views.{JobView, PackageView}
-use Rattle.model_laws.specs.Fitting.{GivesJobs}
+use Rattle.model_laws.specs.Builds.{GivesJobs}
 use Rattle.model_laws.proofs.Deciding.{status_with}
 use Rattle.model_laws.proofs.Following.{results_unfold, results_stand}
 use Rattle.model_laws.proofs.Graph.{target_below}

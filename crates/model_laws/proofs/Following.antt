@@ -14,8 +14,7 @@ use Rattle.bulk_model.specs.PlanFacts.{IsPlan}
 use Rattle.bulk_model.specs.PlanView.{PlanView, count, depends, is_ignored, away}
 use Rattle.bulk_model.specs.Results.{Bakes, kept_at, is_good, package_in, status_of_outcome, status_from, status_up_to, status_at, statuses_of}
 use Rattle.model_laws.specs.Results.{Solves}
-use Rattle.model_laws.proofs.Graph.{target_below, all_away, depends_away, depends_below}
-use Rattle.model_laws.proofs.Installed.{installs_keep, installed_lie_below}
+use Rattle.model_laws.proofs.Graph.{target_below, all_away, depends_away, depends_below, installs_keep, installed_lie_below}
 
 module _ (bakes : Bakes) (plan : PlanView) (kept : KeptPackages) where
   -- statuses that agree at the dependencies and at what is installed give one status

@@ -1,6 +1,5 @@
 pub mod Graph
 pub mod Growing
-pub mod Installed
 pub mod Following
 pub mod Deciding
 pub mod Fitted
@@ -9,5 +8,4 @@ pub mod Blaming
 pub mod Longest
 pub mod Ordered
 pub mod Closing
-pub mod Moving
 pub mod Rounds

@@ -1,6 +1,4 @@
+pub mod Plans
 pub mod Results
-pub mod Installing
-pub mod Fitting
-pub mod Causes
-pub mod Chains
+pub mod Builds
 pub mod Soundness

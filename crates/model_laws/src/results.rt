@@ -1,10 +1,13 @@
-// What the results of a plan are.
+// What the results of a plan are, and why nodes were skipped.
 ghost use Rattle.model_laws.specs.Results.{
   ResultsUnfold,
   SolutionsAreResults,
   ResultsStand,
   OutcomesDecide,
   RightOutcomesTell,
+  ResultsFit,
+  CausesUnfold,
+  CausesAreToBlame,
 };
 
 /// The results solve their own recursion at every node: its bound is never met.
@@ -30,4 +33,20 @@ pub fn outcomes_decide()
 /// Outcomes that are right at each node that was built give the results.
 pub fn right_outcomes_tell()
     ensures { RightOutcomesTell }
+{}
+
+/// The results of a plan fit it, whatever the builds give.
+pub fn results_fit()
+    ensures { ResultsFit }
+{}
+
+/// The cause of a skipped node is its least dependency without a package, or that one's cause
+/// where it was skipped too.
+pub fn causes_unfold()
+    ensures { CausesUnfold }
+{}
+
+/// The cause of a skipped node is a node that failed or is ignored.
+pub fn causes_are_to_blame()
+    ensures { CausesAreToBlame }
 {}

@@ -1,4 +1,4 @@
-use Rattle.model_laws.proofs.Moving.{rounds_install_all as law}
+use Rattle.model_laws.proofs.Rounds.{rounds_install_all as law}
 use Rattle.model_laws.proofs.soundness.rounds_install_all.Goals as goal
 
 pub returns : goal.returns

@@ -1,5 +1,0 @@
-use Rattle.model_laws.proofs.Blaming.{causes_unfold as law}
-use Rattle.model_laws.proofs.causes.causes_unfold.Goals as goal
-
-pub returns : goal.returns
-returns c = law

@@ -1,5 +1,0 @@
-use Rattle.model_laws.proofs.Longest.{nine_edges_are_enough as law}
-use Rattle.model_laws.proofs.chains.nine_edges_are_enough.Goals as goal
-
-pub returns : goal.returns
-returns c = law

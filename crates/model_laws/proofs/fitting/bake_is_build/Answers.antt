@@ -1,5 +1,0 @@
-use Rattle.model_laws.proofs.Building.{bake_is_build as law}
-use Rattle.model_laws.proofs.fitting.bake_is_build.Goals as goal
-
-pub returns : goal.returns
-returns c = law

@@ -1,5 +1,0 @@
-use Rattle.model_laws.proofs.Building.{dry_builds_give_jobs as law}
-use Rattle.model_laws.proofs.fitting.dry_builds_give_jobs.Goals as goal
-
-pub returns : goal.returns
-returns c = law

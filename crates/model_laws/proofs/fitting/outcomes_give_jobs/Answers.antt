@@ -1,5 +1,0 @@
-use Rattle.model_laws.proofs.Fitted.{outcomes_give_jobs as law}
-use Rattle.model_laws.proofs.fitting.outcomes_give_jobs.Goals as goal
-
-pub returns : goal.returns
-returns c = law

@@ -1,5 +1,0 @@
-use Rattle.model_laws.proofs.Building.{statuses_so_far_install as law}
-use Rattle.model_laws.proofs.fitting.statuses_so_far_install.Goals as goal
-
-pub returns : goal.returns
-returns c = law
