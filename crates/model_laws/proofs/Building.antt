@@ -2,8 +2,9 @@
 use Rattle.std.proofs.Common.{◌≡◌, ℕ, ◌<◌, Bool, true, false, List, [], ◌∷◌, refl, ap, sym, subst, ◌∙◌, cond, Option, Some, None}
 use Rattle.std.specs.Prelude.{Contains, is_some, IsTrue, ◌==◌}
 use Rattle.std.specs.List.{list_all, filter_map}
-use Rattle.outside.specs.Contents.{Contents}
 use Rattle.bulk_base.specs.declared.file.FileItem.{FileItem}
+use Rattle.bulk_base.proofs.Members.{all_passes, passes_all, filter_map_agree}
+use Rattle.outside.specs.Contents.{Contents}
 use Rattle.bulk_model.specs.declared.outcome.Outcome.{Outcome}
 use Rattle.bulk_model.specs.declared.outcome.Outcome.TheVariants.{Built as MadePackage, Failed as FailedBuild}
 use Rattle.bulk_model.specs.declared.outcome.Phase.{Phase}
@@ -23,7 +24,6 @@ use Rattle.bulk_model.proofs.JobFields.{packed_is_outcome, package_has_fields}
 use Rattle.model_laws.specs.Builds.{GivesJobs, AreInstalledAt, AreRightSoFar}
 use Rattle.model_laws.specs.Results.{packages_at}
 use Rattle.model_laws.proofs.Graph.{target_below, installs_keep}
-use Rattle.bulk_base.proofs.Members.{all_passes, passes_all, filter_map_agree}
 use Rattle.model_laws.proofs.Deciding.{status_with}
 use Rattle.model_laws.proofs.Following.{results_unfold}
 

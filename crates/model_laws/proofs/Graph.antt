@@ -2,17 +2,17 @@
 use Rattle.std.proofs.Common.{◌≡◌, ℕ, zero, suc, ◌<◌, true, List, subst, Bool, length, sym, inl, inr}
 use Rattle.std.specs.Prelude.{Contains, ◌&&◌, filter}
 use Rattle.std.specs.List.{All, list_any, list_all}
+use Rattle.std.proofs.lemmas.Bool.{and_parts, or_cases}
+use Rattle.std.proofs.lemmas.List.FromFn.{length-range_with_len}
 use Rattle.bulk_base.proofs.Members.{all_passes, passes_all, Member, any_member, has_contains, contains_has, contains_map, map_contains, Source, filter_out_of, filter_into, range_below, below_range}
 use Rattle.bulk_model.specs.PlanView.{PlanView, count, depends, away, nodes, edges_from}
 use Rattle.bulk_model.specs.PlanFacts.{IsPlan}
-use Rattle.bulk_model.proofs.PlanTests.{passes_below}
-use Rattle.std.proofs.lemmas.Bool.{and_parts, or_cases}
-use Rattle.std.proofs.lemmas.List.FromFn.{length-range_with_len}
 use Rattle.bulk_model.specs.declared.plan.Edge.{Edge}
 use Rattle.bulk_model.specs.declared.plan.Kept.{Kept as KeptPackages}
 use Rattle.bulk_model.specs.Fit.{FitsKept}
 use Rattle.bulk_model.specs.Results.{is_kept}
 use Rattle.bulk_model.specs.Installs.{is_needed_later, later_depends, has, is_installed, installs}
+use Rattle.bulk_model.proofs.PlanTests.{passes_below}
 use Rattle.model_laws.proofs.Growing.{grown_first, grown_adds, grown_full}
 
 -- what holds of all in a list holds of what it contains

@@ -3,8 +3,8 @@ use Rattle.std.proofs.Common.{◌≡◌, ℕ, zero, suc, ◌≤◌, Bool, true, 
 use Rattle.std.specs.Prelude.{◌&&◌, filter, Contains}
 use Rattle.std.specs.List.{list_any}
 use Rattle.std.proofs.lemmas.Bool.{and_parts, and_from, or_cases, or_left, or_right, cases_lt}
-use Rattle.bulk_model.specs.Grown.{grown}
 use Rattle.bulk_base.proofs.Members.{Member, any_member, member_any, filter_whole, filter_out_of, filter_same}
+use Rattle.bulk_model.specs.Grown.{grown}
 
 module _ {X : Type 0} (first : X → Bool) (leads : X → X → Bool) (members : List X) where
   abbrev at : ℕ → X → Bool

@@ -12,10 +12,10 @@ use Rattle.bulk_model.specs.Grown.{grown}
 use Rattle.bulk_model.specs.Installs.{is_needed_later}
 use Rattle.bulk_model.specs.Sound.{Recipe, IsClosed, IsWithin, HasNames, IsMade, IsSound, by_node, closed_part, IsMadeAmong, IsSoundByRounds}
 use Rattle.bulk_model.specs.Views.{PackageView}
+use Rattle.model_laws.specs.Soundness.{HasOwnNames, IsGreatestClosed}
 use Rattle.model_laws.proofs.Closing.{recorded_name, Meant, meant_in, part_within, part_closed, part_is_greatest, part_order}
 use Rattle.model_laws.proofs.Growing.{grown_first, grown_adds, grown_full}
 use Rattle.model_laws.proofs.Ordered.{filter_order, same_order, by_node_into, by_node_out_of, own_names_tell, members_are_in_order}
-use Rattle.model_laws.specs.Soundness.{HasOwnNames, IsGreatestClosed}
 
 module _ (all : List PackageView) (names : HasNames all) where
   -- a recorded dependency means the same package in each set
