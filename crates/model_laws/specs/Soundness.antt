@@ -1,6 +1,5 @@
 -- Laws on closed and sound packages.
-use Rattle.std.specs.Prelude.{◌↔◌, List, map, bytes_eq, Contains}
-use Rattle.std.specs.List.{IsDistinct}
+use Rattle.std.specs.Prelude.{◌↔◌, List, Contains}
 use Rattle.bulk_model.specs.Among.{AreInOrder, AreInstalls, installs_among}
 use Rattle.bulk_model.specs.Bake.{Runs}
 use Rattle.bulk_model.specs.Sound.{Recipe, IsClosed, IsWithin, HasNames, IsSound, by_node, closed_part, IsSoundByRounds}
@@ -23,22 +22,15 @@ FewerStaySound =
     (runs : Runs) (table : List Recipe) (members some : List PackageView)
     → IsSound runs table members → IsWithin some members → IsSound runs table some
 
--- no two places of a list have packages of one name
-abbrev pub HasOwnNames : List PackageView → Type 0
-HasOwnNames members = IsDistinct bytes_eq (map (λ p. p.name) members)
+-- members are put in order, by node, then name, each once
+abbrev pub MembersAreInOrder : Type 0
+MembersAreInOrder = (members : List PackageView) → AreInOrder (by_node members)
 
--- then a name tells the package, and the order by node, then name, has each member once
-abbrev pub OwnNamesTell : Type 0
-OwnNamesTell = (members : List PackageView) → HasOwnNames members → HasNames members
-
+-- and where a name tells the package, they stay the same members
 abbrev pub MembersStay : Type 0
 MembersStay =
-    (members : List PackageView) (p : PackageView)
-    → Contains (by_node members) p ↔ Contains members p
-
-abbrev pub MembersAreInOrder : Type 0
-MembersAreInOrder =
-    (members : List PackageView) → HasOwnNames members → AreInOrder (by_node members)
+    (members : List PackageView) → HasNames members
+    → (p : PackageView) → Contains (by_node members) p ↔ Contains members p
 
 -- rounds over members in order give just what is installed for a package, in order
 abbrev pub RoundsInstallAll : Type 0
@@ -46,8 +38,8 @@ RoundsInstallAll =
     (members : List PackageView) (p : PackageView) → AreInOrder members
     → AreInstalls members p (installs_among members p)
 
--- members are sound just where they are sound by rounds
+-- members of distinct names are sound just where they are sound by rounds
 abbrev pub SoundIsByRounds : Type 0
 SoundIsByRounds =
     (runs : Runs) (table : List Recipe) (members : List PackageView)
-    → HasOwnNames members → IsSound runs table members ↔ IsSoundByRounds runs table members
+    → HasNames members → IsSound runs table members ↔ IsSoundByRounds runs table members

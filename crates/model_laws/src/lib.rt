@@ -19,6 +19,6 @@ pub use results::{
     results_unfold, right_outcomes_tell, solutions_are_results,
 };
 pub use soundness::{
-    closed_part_is_greatest, fewer_stay_sound, members_are_in_order, members_stay, own_names_tell,
+    closed_part_is_greatest, fewer_stay_sound, members_are_in_order, members_stay,
     rounds_install_all, sound_is_by_rounds,
 };

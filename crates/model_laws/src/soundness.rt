@@ -2,7 +2,6 @@
 ghost use Rattle.model_laws.specs.Soundness.{
   ClosedPartIsGreatest,
   FewerStaySound,
-  OwnNamesTell,
   MembersStay,
   MembersAreInOrder,
   RoundsInstallAll,
@@ -19,17 +18,12 @@ pub fn fewer_stay_sound()
     ensures { FewerStaySound }
 {}
 
-/// Where no two places of a list have packages of one name, a name tells the package.
-pub fn own_names_tell()
-    ensures { OwnNamesTell }
-{}
-
-/// To put members in order keeps just them.
+/// To put members in order keeps just them, where a name tells the package.
 pub fn members_stay()
     ensures { MembersStay }
 {}
 
-/// Members of distinct names are put in order, each once.
+/// Members are put in order, each once.
 pub fn members_are_in_order()
     ensures { MembersAreInOrder }
 {}
@@ -39,7 +33,7 @@ pub fn rounds_install_all()
     ensures { RoundsInstallAll }
 {}
 
-/// Members are sound just where they are sound by rounds.
+/// Members of distinct names are sound just where they are sound by rounds.
 pub fn sound_is_by_rounds()
     ensures { SoundIsByRounds }
 {}
