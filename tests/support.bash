@@ -118,12 +118,27 @@ failed() {
   says 1 'deleted 0' 'kept 0' 'built 0' 'failed 1' "  $1 $2 $3 $4" 'ignored 0' 'skipped 0' 'total 1'
 }
 
+# recipe_of NAME: the digest of the recipe that a stored package tells.
+recipe_of() { sed -n '5s/^recipe //p;5q' "packages/$1.pkg" 2>/dev/null; }
+
 # want_package NAME NODE [OPTION=STATE ..]: the store must hold this package,
-# whose files are those that stand below ../staged.
+# whose files are those that stand below ../staged. Its recipe's digest is taken
+# as it is told; want_recipe computes it.
 want_package() {
   local name=$1 node=$2
   shift 2
-  "$tests/make_record" "$name" "$node" ../staged "$@" >"../want/$name.pkg"
+  "$tests/make_record" "$name" "$node" ../staged "$(recipe_of "$name")" "$@" >"../want/$name.pkg"
+}
+
+# want_recipe NAME NODE [OPTION=STATE ..] <COMMANDS: the stored package tells the
+# digest of the recipe with these commands, a line each behind its phase, and the
+# files of the node's port.
+want_recipe() {
+  local name=$1 node=$2 wanted told
+  shift 2
+  wanted=$("$tests/make_recipe" "$name" "$node" "tree/ports/${node%@*}/files" "$@" | sha256sum | cut -d ' ' -f 1)
+  told=$(recipe_of "$name")
+  [ "$told" = "$wanted" ] || miss "the package $name tells the recipe '$told', not '$wanted'"
 }
 
 # staged PATH TEXT: a file of the expected package.

@@ -41,7 +41,10 @@ check_record_with_an_option() {
   ax OPTIONS_DEFINE=DOCS OPTIONS_DEFAULT=DOCS 'DO_STAGE=cp work/hello stage/hello'
   bulk a/x
   built a/x x-1.0
-  printf '%s\n' 'poudriere-package 1' 'name x-1.0' 'origin a/x' 'flavor -' 'options 1' 'option DOCS on' 'depends 0' \
+  printf '%s\n' 'poudriere-recipe 1' 'name x-1.0' 'origin a/x' 'flavor -' 'options 1' 'option DOCS on' 'depends 0' \
+    'steps 0 0 0 0 1' 'command 3' cp work/hello stage/hello 'files 1' 'file 3 hello' 'hi' '' 'base 0' >../recipe
+  printf '%s\n' 'poudriere-package 2' 'name x-1.0' 'origin a/x' 'flavor -' \
+    "recipe $(sha256sum <../recipe | cut -d ' ' -f 1)" 'options 1' 'option DOCS on' 'depends 0' \
     'files 1' 'file 3 hello' 'hi' '' >../unsigned
   { cat ../unsigned && printf 'sha256 %s\n' "$(sha256sum <../unsigned | cut -d ' ' -f 1)"; } >../want/x-1.0.pkg
 }

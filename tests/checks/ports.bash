@@ -5,10 +5,11 @@ check_first_port() {
   bulk a/x
   built a/x x-1.0
   # The record written out, so that nothing here computes it.
-  printf '%s\n' 'poudriere-package 1' 'name x-1.0' 'origin a/x' 'flavor -' 'options 0' 'depends 0' \
-    'files 1' 'file 3 hello' 'hi' '' \
-    'sha256 bd720c5d8b71dda2c30333708da9355f1f98f50f7c2f956175c239a33b2f8c6d' >../want/x-1.0.pkg
-  [ "$(wc -c <packages/x-1.0.pkg)" = 168 ] || miss 'the record has not 168 bytes'
+  printf '%s\n' 'poudriere-package 2' 'name x-1.0' 'origin a/x' 'flavor -' \
+    'recipe 5bb9fb0547b736ae91fe7da237bf325586eb7f309fbc0d9f6ce459f4aa4cd077' \
+    'options 0' 'depends 0' 'files 1' 'file 3 hello' 'hi' '' \
+    'sha256 ee95798e037e6c5bd430a7e165a158e107f5ab6314d1427c808911fcf5e53ba9' >../want/x-1.0.pkg
+  [ "$(wc -c <packages/x-1.0.pkg)" = 240 ] || miss 'the record has not 240 bytes'
 }
 
 # The phases run in their order, each in what the ones before it left.

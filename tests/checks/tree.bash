@@ -141,6 +141,17 @@ check_links_are_read_through() {
   built_with_hello
 }
 
+# In byte order `a-b/c` stands between `a` and `a/c`, so a folder's files need not stand side by side.
+check_folders_whose_names_begin_alike() {
+  ax 'DO_STAGE=cp -R work/. stage'
+  file tree/ports/a/x/files/a/c 'deep\n'
+  file tree/ports/a/x/files/a-b/c 'beside\n'
+  staged a-b/c 'beside\n'
+  staged a/c 'deep\n'
+  bulk a/x
+  built_with_hello
+}
+
 check_fifo_in_the_tree_is_left_out() {
   ax 'DO_STAGE=cp -R work/. stage'
   mkfifo tree/ports/a/x/files/pipe

@@ -5,3 +5,4 @@ pub mod FileNames
 pub mod Digits
 pub mod JobFields
 pub mod PlanTests
+pub mod Bases

@@ -1,9 +1,10 @@
 -- What holds of every plan.
-use Rattle.std.specs.Prelude.{◌≡◌, ℕ, Bool, true, not, ◌||◌, ◌^◌, ◌<◌, List, [], ◌∷◌, length, map, codes, IsTrue, bytes_eq}
+use Rattle.std.specs.Prelude.{◌≡◌, ℕ, Bool, true, not, ◌||◌, ◌^◌, ◌<◌, List, [], ◌∷◌, length, map, codes, None, IsTrue, bytes_eq}
 use Rattle.std.specs.List.{list_all, list_any, All, IsDistinct}
 use Rattle.bulk_base.specs.Path.{is_below}
 use Rattle.bulk_base.specs.declared.file.FileItem.{FileItem}
 use Rattle.bulk_model.specs.PlanView.{PlanView, count, depends, is_ignored, is_loopless}
+use Rattle.bulk_model.specs.Bake.{first_conflict}
 use Rattle.bulk_model.specs.Facts.{IsFileList, paths_of}
 
 -- a path whose first part is one of the folders that a build fills
@@ -13,6 +14,11 @@ is_reserved path = list_any (λ folder. bytes_eq folder path || is_below folder 
 -- the base root: files of which none stands where a build puts its own
 pub record IsBase (files : List FileItem) : Type 0 where
   pub form : IsFileList 1024 files
+  pub free : IsTrue (list_all (λ path. not (is_reserved path)) (paths_of files))
+
+-- files over which a build may be: no two collide, and none stands where a build puts its own
+pub record MayUnderlie (files : List FileItem) : Type 0 where
+  pub apart : first_conflict [] files ≡ None
   pub free : IsTrue (list_all (λ path. not (is_reserved path)) (paths_of files))
 
 pub record IsPlan (plan : PlanView) : Type 0 where

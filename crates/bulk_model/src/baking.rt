@@ -2,7 +2,7 @@
 ghost use Rattle.std.specs.Prelude.{◌≡◌, ℕ, List, [], ◌∷◌, ◌++◌, IfOk, OnOk, OnErr};
 ghost use Rattle.outside.specs.Faults.{HasCause};
 ghost use Rattle.outside.specs.Outcomes.{GrewByAtMost};
-ghost use Rattle.bulk_model.specs.PlanFacts.{IsBase};
+ghost use Rattle.bulk_model.specs.PlanFacts.{MayUnderlie};
 ghost use Rattle.bulk_model.specs.Baked.{IsBuildOf};
 
 use crate::job::Job;
@@ -34,7 +34,7 @@ pub trait Baking {
         job: &Job,
         packages: &[Shared<Package>],
     ) -> Result<Outcome, Outer>
-        requires { IsBase base.now }
+        requires { MayUnderlie base.now }
         ensures built { IfOk result (IsBuildOf Self.Ways.tells Self.Ways.runs base.now job.now packages.now) }
         ensures begun { OnOk result (begun self.new ≡ begun self.old ++ job.now.name ∷ []) }
         ensures begun_err { OnErr result (GrewByAtMost job.now.name (begun self.old) (begun self.new)) }

@@ -1,3 +1,4 @@
 mod Counts
 mod ExampleFacts
 mod ThreePorts
+mod SoundStores

@@ -1,9 +1,8 @@
 -- Worked examples of builds, of what comes of a plan and of what is printed, for tests. A port `a/NAME` makes `NAME-1.0`.
-use Rattle.std.specs.Prelude.{ℕ, false, List, [], ◌∷◌, ◌++◌, map, codes, bytes_eq, unwrap_or, if◌then◌else◌, Option, Some, None}
+use Rattle.std.specs.Prelude.{ℕ, Bool, false, List, [], ◌∷◌, ◌++◌, map, codes, bytes_eq, unwrap_or, if◌then◌else◌, Option, Some, None}
 use Rattle.std.specs.List.{flat_map}
 use Rattle.bulk_base.specs.Words.{words_of}
 use Rattle.bulk_base.specs.Number.{number_of}
-use Rattle.outside.specs.Contents.{Contents}
 use Rattle.bulk_model.specs.declared.depend.DepKind.{DepKind}
 use Rattle.bulk_model.specs.declared.depend.DepKind.TheVariants.{Build, Lib, Run}
 use Rattle.bulk_model.specs.declared.outcome.Outcome.{Outcome}
@@ -14,7 +13,11 @@ use Rattle.bulk_model.specs.declared.results.Status.{Status}
 use Rattle.bulk_model.specs.declared.results.Status.TheVariants.{Built, Kept}
 use Rattle.bulk_model.specs.Views.{JobView, PackageView}
 use Rattle.bulk_model.specs.PlanView.{PlanView}
-use Rattle.bulk_model.specs.Bake.{bake, package_of}
+use Rattle.bulk_base.specs.declared.file.FileItem.{FileItem}
+use Rattle.bulk_model.specs.Bake.{Runs, bake, package_of}
+use Rattle.bulk_model.specs.Digests.{no_digest}
+use Rattle.bulk_model.specs.DryLists.{dry_lists}
+use Rattle.bulk_model.specs.Order.{order}
 use Rattle.bulk_model.specs.Results.{res_given}
 use Rattle.bulk_model.specs.Lines.{line}
 
@@ -49,9 +52,13 @@ status (program ∷ []) = if bytes_eq program (codes "true") then 0 else 127
 status (program ∷ number ∷ []) = if bytes_eq program (codes "exit") then unwrap_or (number_of number) 2 else 127
 status _ = 127
 
--- what comes of a build over these packages, where no command changes a file
+-- commands that change no file
+abbrev pub still : Runs
+still words folder = (status words, folder)
+
+-- what comes of a build over these packages by such commands
 abbrev pub baked : JobView → List PackageView → Outcome
-baked job packages = bake (λ words folder. (status words, folder)) [] job packages
+baked job packages = bake still [] job packages
 
 -- an edge
 abbrev pub to : DepKind → ℕ → Edge
@@ -108,3 +115,42 @@ ignoring = plan_of ((codes "i", [], Some (codes "no")) ∷ (codes "u", to Run 0 
 -- `u` is built with `t1` and `t2`, and `v` runs `u`
 abbrev pub tools : PlanView
 tools = plan_of ((codes "t1", [], None) ∷ (codes "t2", [], None) ∷ (codes "u", to Build 0 ∷ to Build 1 ∷ [], None) ∷ (codes "v", to Run 2 ∷ [], None) ∷ [])
+
+-- `m` is built with `z`, and `a` stands alone
+abbrev pub apart : PlanView
+apart = plan_of ((codes "a", [], None) ∷ (codes "m", to Build 2 ∷ [], None) ∷ (codes "z", [], None) ∷ [])
+
+-- a plan with marks of the nodes that are boosted
+abbrev pub boosting : List Bool → PlanView → PlanView
+boosting marks plan = record { jobs = plan.jobs; edges = plan.edges; ignored = plan.ignored; wanted = plan.wanted; base = plan.base; boosted = marks }
+
+abbrev pub none_kept : PlanView → KeptPackages
+none_kept plan = record { packages = map (λ job. None) plan.jobs }
+
+-- the order of one builder where nothing is kept and all builds succeed
+abbrev pub order_of : PlanView → List ℕ
+order_of plan = order plan (none_kept plan) (come plan (map made_by plan.jobs))
+
+-- what a dry run prints where nothing is kept and nothing deleted
+abbrev pub dry_text_of : PlanView → List ℕ
+dry_text_of plan = dry_lists plan (none_kept plan) [] []
+
+-- the file `hello`, which holds `hi` and a line feed
+abbrev pub hello : FileItem
+hello = record { path = codes "hello"; bytes = codes "hi\n" }
+
+-- the port `a/x`, which stages it
+abbrev pub port_hello : JobView
+port_hello = record {
+  name = codes "x-1.0";
+  origin = codes "a/x";
+  flavor = None;
+  options = [];
+  depends = [];
+  steps = record { extract = []; patch = []; configure = []; build = []; stage = words_of (codes "cp work/hello stage/hello") ∷ [] };
+  files = hello ∷ [];
+}
+
+-- a package of it without a recipe, as a record of version 1 tells it
+abbrev pub package_hello : PackageView
+package_hello = record { name = codes "x-1.0"; origin = codes "a/x"; flavor = None; recipe = no_digest; options = []; depends = []; files = hello ∷ [] }

@@ -1,13 +1,18 @@
-// Worked examples of the definitions of builds, statuses, causes and printed lists, which the prover computes.
-ghost use Rattle.std.specs.Prelude.{◌≡◌, [], ◌∷◌, codes, Some, None, map};
+// Worked examples of the definitions of builds, statuses, causes, orders, printed lists, records and sound stores, which the
+// prover computes.
+ghost use Rattle.std.specs.Prelude.{◌≡◌, true, false, List, [], ◌∷◌, length, codes, Some, None, map};
 ghost use Rattle.bulk_model.specs.declared.outcome.Outcome.TheVariants.{Built as MadePackage, Failed as FailedBuild};
 ghost use Rattle.bulk_model.specs.declared.outcome.Phase.TheVariants.{Depends as DependsPhase, Build as BuildPhase, Stage as StagePhase};
 ghost use Rattle.bulk_model.specs.declared.reason.Reason.TheVariants.{NewOptions, MissingDepend};
 ghost use Rattle.bulk_model.specs.declared.results.Status.TheVariants.{Failed, Ignored, Skipped};
 ghost use Rattle.bulk_model.specs.Cause.{cause};
-ghost use Rattle.graph_cases.specs.Examples.{port_with, package_with, baked, plain, made, made_by, built, kept, come, come_over, text, diamond, fork, ladder, ignoring, tools, bare};
+ghost use Rattle.graph_cases.specs.Examples.{port_with, package_with, baked, plain, made, made_by, built, kept, come, come_over, text, diamond, fork, ladder, ignoring, tools, bare, apart, boosting, order_of, dry_text_of, port_hello, package_hello, still, port};
 ghost use Rattle.bulk_model.specs.Installs.{installs};
 ghost use Rattle.bulk_model.specs.Lists.{lists, exit_status};
+ghost use Rattle.bulk_model.specs.Recipe.{recipe_text};
+ghost use Rattle.bulk_model.specs.Sound.{Recipe, IsSound, recipe_of};
+ghost use Rattle.bulk_model.specs.Spelling.{unsigned};
+ghost use Rattle.bulk_model.specs.declared.version.Version.TheVariants.{One, Two};
 
 fn builds()
     ensures unknown { baked (port_with (codes "x") [] (codes "cc hello.c" ∷ [])) [] ≡ FailedBuild StagePhase 127 }
@@ -43,6 +48,29 @@ fn printed()
     ensures none { exit_status (Ignored ∷ kept (codes "u") ∷ []) ≡ 0 }
 {}
 
+fn orders()
+    ensures least_of_the_highest { order_of apart ≡ 2 ∷ 0 ∷ 1 ∷ [] }
+    ensures boosted { order_of (boosting (true ∷ false ∷ false ∷ []) apart) ≡ 0 ∷ 2 ∷ 1 ∷ [] }
+    ensures behind_its_dependency { order_of (boosting (false ∷ true ∷ false ∷ []) apart) ≡ 2 ∷ 1 ∷ 0 ∷ [] }
+    ensures longest_chain_first { order_of ladder ≡ 4 ∷ 3 ∷ 2 ∷ 1 ∷ 0 ∷ [] }
+{}
+
+fn dry_runs()
+    ensures in_order { dry_text_of fork ≡ text (codes "would delete 0" ∷ codes "would keep 0" ∷ codes "would build 3" ∷ codes "  a/b1 b1-1.0" ∷ codes "  a/b2 b2-1.0" ∷ codes "  a/top top-1.0" ∷ codes "ignored 0" ∷ codes "would skip 0" ∷ codes "total 3" ∷ []) }
+    ensures skipped { dry_text_of ignoring ≡ text (codes "would delete 0" ∷ codes "would keep 0" ∷ codes "would build 0" ∷ codes "ignored 1" ∷ codes "  a/i i-1.0 no" ∷ codes "would skip 1" ∷ codes "  a/u u-1.0 because a/i" ∷ codes "total 2" ∷ []) }
+{}
+
+fn records()
+    ensures recipe { length (recipe_text [] port_hello) ≡ 154 }
+    ensures lines { length (unsigned Two package_hello) ≡ 168 }
+    ensures old_lines { length (unsigned One package_hello) ≡ 96 }
+{}
+
+fn sound_stores()
+    ensures empty { (table : List Recipe) → IsSound still table [] }
+    ensures one { IsSound still (recipe_of [] (port (codes "x")) ∷ []) (plain (codes "x") ∷ []) }
+{}
+
 /// The examples, which hold; it does nothing.
 pub(crate) fn examples() {
     builds();
@@ -50,4 +78,8 @@ pub(crate) fn examples() {
     statuses();
     causes();
     printed();
+    orders();
+    dry_runs();
+    records();
+    sound_stores();
 }

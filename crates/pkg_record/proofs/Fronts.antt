@@ -7,15 +7,18 @@ use Rattle.std.proofs.lemmas.Bool.{cases_lt, lt-ltb, le-ltb}
 use Rattle.std.proofs.lemmas.List.{length-append, get_or_append_left, take-append-le, drop-append-le}
 use Rattle.std.proofs.lemmas.List.Sums.{position_or_len_is, fails_before_first, passes_at_first}
 use Rattle.bulk_base.specs.declared.file.FileItem.{FileItem}
+use Rattle.bulk_model.specs.declared.version.Version.{Version}
+use Rattle.bulk_model.specs.declared.version.Version.TheVariants.{One, Two}
+use Rattle.bulk_model.specs.Digests.{no_digest}
 use Rattle.pkg_record.specs.declared.fault.Fault.{Fault}
 use Rattle.pkg_record.specs.declared.fault.Fault.TheVariants.{Short, Misfit}
 use Rattle.bulk_base.specs.Marks.{is_mark}
 use Rattle.port_name.specs.Forms.{is_origin}
 use Rattle.port_name.specs.PackageForm.{is_package_name}
-use Rattle.pkg_record.specs.Said.{passing, word_behind, flavor_said, count_behind, option_said, depend_said, file_said}
-use Rattle.pkg_record.specs.Reading.{◌>>=◌, line_at, fitting, said_at, piece_at, next_option, option_at, next_depend, depend_at, next_file, file_at, items_at, listed_at, unsigned_at}
+use Rattle.pkg_record.specs.Said.{word_behind, version_said, flavor_said, recipe_said, count_behind, option_said, depend_said, file_said}
+use Rattle.pkg_record.specs.Reading.{◌>>=◌, line_at, fitting, said_at, piece_at, next_option, option_at, next_depend, depend_at, next_file, file_at, items_at, listed_at, recipe_at, package_told, unsigned_at}
 use Rattle.pkg_record.proofs.Taken.{bind_ok, ok_is, given_ok, chosen_ok, below, fits}
-use Rattle.pkg_record.proofs.Spelled.{file_made, packed, from_files, from_depends, from_options, from_flavor, from_origin, from_name, is_version_line}
+use Rattle.pkg_record.proofs.Spelled.{file_made, from_files, from_depends, from_options, from_recipe, from_flavor, from_origin, from_name}
 
 abbrev pub Reader : Type 0 → Type 0
 Reader X = List ℕ → Result (X × List ℕ) Fault
@@ -139,9 +142,14 @@ option_fronts : (before : List _) → Fronts (option_at before)
 unfolding option_at
 option_fronts before = said_fronts (λ text. option_and_then (next_option before) (option_said text))
 
-depend_fronts : (before : List _) → Fronts (depend_at before)
+depend_fronts : (version : Version) (before : List _) → Fronts (depend_at version before)
 unfolding depend_at
-depend_fronts before = said_fronts (λ text. option_and_then (next_depend before) (depend_said text))
+depend_fronts version before = said_fronts (λ text. option_and_then (next_depend before) (depend_said version text))
+
+recipe_fronts : (version : Version) → Fronts (recipe_at version)
+unfolding recipe_at
+recipe_fronts One = fronts_done no_digest
+recipe_fronts Two = said_fronts recipe_said
 
 file_fronts : (before : List FileItem) → Fronts (file_at before)
 unfolding file_at
@@ -164,11 +172,12 @@ listed_fronts heading item fronts =
 pub unsigned_fronts : Fronts unsigned_at
 unfolding unsigned_at
 unsigned_fronts =
-    fronts_then (said_at (passing is_version_line)) (λ version rest. from_name rest) (said_fronts (passing is_version_line)) (λ version.
-    fronts_then (said_at (word_behind (codes "name ") is_package_name)) (λ name rest. from_origin name rest) (said_fronts (word_behind (codes "name ") is_package_name)) (λ name.
-    fronts_then (said_at (word_behind (codes "origin ") is_origin)) (λ origin rest. from_flavor name origin rest) (said_fronts (word_behind (codes "origin ") is_origin)) (λ origin.
-    fronts_then (said_at flavor_said) (λ flavor rest. from_options name origin flavor rest) (said_fronts flavor_said) (λ flavor.
-    fronts_then (listed_at (codes "options ") option_at) (λ options rest. from_depends name origin flavor options rest) (listed_fronts (codes "options ") option_at option_fronts) (λ options.
-    fronts_then (listed_at (codes "depends ") depend_at) (λ depends rest. from_files name origin flavor options depends rest) (listed_fronts (codes "depends ") depend_at depend_fronts) (λ depends.
-    fronts_then (listed_at (codes "files ") file_at) (λ files rest. Ok (packed name origin flavor options depends files, rest)) (listed_fronts (codes "files ") file_at file_fronts) (λ files.
-    fronts_done (packed name origin flavor options depends files))))))))
+    fronts_then (said_at version_said) (λ version rest. from_name version rest) (said_fronts version_said) (λ version.
+    fronts_then (said_at (word_behind (codes "name ") is_package_name)) (λ name rest. from_origin version name rest) (said_fronts (word_behind (codes "name ") is_package_name)) (λ name.
+    fronts_then (said_at (word_behind (codes "origin ") is_origin)) (λ origin rest. from_flavor version name origin rest) (said_fronts (word_behind (codes "origin ") is_origin)) (λ origin.
+    fronts_then (said_at flavor_said) (λ flavor rest. from_recipe version name origin flavor rest) (said_fronts flavor_said) (λ flavor.
+    fronts_then (recipe_at version) (λ recipe rest. from_options version name origin flavor recipe rest) (recipe_fronts version) (λ recipe.
+    fronts_then (listed_at (codes "options ") option_at) (λ options rest. from_depends version name origin flavor recipe options rest) (listed_fronts (codes "options ") option_at option_fronts) (λ options.
+    fronts_then (listed_at (codes "depends ") (depend_at version)) (λ depends rest. from_files version name origin flavor recipe options depends rest) (listed_fronts (codes "depends ") (depend_at version) (depend_fronts version)) (λ depends.
+    fronts_then (listed_at (codes "files ") file_at) (λ files rest. Ok ((version, package_told name origin flavor recipe options depends files), rest)) (listed_fronts (codes "files ") file_at file_fronts) (λ files.
+    fronts_done (version, package_told name origin flavor recipe options depends files)))))))))

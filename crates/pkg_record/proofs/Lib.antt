@@ -5,12 +5,16 @@ pub mod Folders
 pub mod NextPath
 pub mod Items
 pub mod NoItems
-pub mod HexDigits
+pub mod Hashes
+pub mod DigestTexts
 pub mod Taken
 pub mod Spelled
 pub mod NamesAgain
 pub mod SaidAgain
+pub mod Without
 pub mod SpelledAgain
 pub mod Fronts
 pub mod Refused
 pub mod Judging
+pub mod Appending
+pub mod Hashing

@@ -1,5 +1,5 @@
 -- A list in form stays in form with one more item behind its last.
-use Rattle.std.proofs.Common.{◌≡◌, ℕ, ◌+◌, ◌-◌, ◌<◌, ◌≤◌, Bool, true, List, [], ◌∷◌, ◌++◌, length, get_or, map, arith, refl, ap, sym, ◌∙◌, inl, inr, suc}
+use Rattle.std.proofs.Common.{◌≡◌, ℕ, ◌+◌, ◌-◌, ◌<◌, ◌≤◌, Bool, true, List, [], ◌∷◌, ◌++◌, length, get_or, map, arith, refl, ap, sym, subst, ◌∙◌, inl, inr, suc}
 use Rattle.std.specs.Prelude.{◌⊎◌, ◌&&◌, not, nat_le}
 use Rattle.std.specs.declared.cmp.Ordering.{Ordering}
 use Rattle.std.specs.declared.cmp.Ordering.TheVariants.{Less, Equal, Greater}
@@ -21,7 +21,9 @@ use Rattle.bulk_base.specs.Names.{is_option_name, IsNode, IsPackageName}
 use Rattle.bulk_base.specs.Path.{is_below}
 use Rattle.bulk_base.proofs.Paths.{below_is_joined}
 use Rattle.bulk_model.specs.declared.depend.Depend.{Depend}
-use Rattle.bulk_model.specs.Facts.{IsOptionList, IsDependList, IsFileList, paths_of, comes_before, each_before}
+use Rattle.bulk_model.specs.declared.depend.Recorded.{Recorded}
+use Rattle.bulk_model.specs.Facts.{IsOptionList, IsDependList, IsRecordedList, IsFileList, paths_of, comes_before, each_before}
+use Rattle.bulk_model.specs.Views.{need_of}
 use Rattle.outside.specs.Contents.{IsAscending, has_no_folder}
 use Rattle.pkg_record.specs.Reading.{last_of, option_follows, depend_follows, path_follows}
 
@@ -71,8 +73,12 @@ options_grow before option follows form b = record {
 
 -- ---- dependencies
 
-depend_behind : (xs : List Depend) (x : Depend) → depend_follows (last_of xs) x ≡ true → 0 < length xs → comes_before (get_or xs (length xs - 1) x) x ≡ true
-depend_behind xs x h some = sym (ap (λ l. depend_follows l x) (slice_get-get_or xs (length xs - 1) x (omega arith))) ∙ h
+depend_behind : (xs : List Recorded) (x : Recorded) → depend_follows (last_of xs) x ≡ true → 0 < length (map need_of xs) → comes_before (get_or (map need_of xs) (length (map need_of xs) - 1) (need_of x)) (need_of x) ≡ true
+depend_behind xs x h some =
+    ap (λ n. comes_before (get_or (map need_of xs) (n - 1) (need_of x)) (need_of x)) (length-map xs need_of)
+    ∙ ap (λ y. comes_before y (need_of x)) (get_or-map need_of xs (length xs - 1) x)
+    ∙ sym (ap (λ l. depend_follows l x) (slice_get-get_or xs (length xs - 1) x (omega (arith, some, length-map xs need_of))))
+    ∙ h
 
 each_before_pushed : (xs : List Depend) (x : Depend) → (0 < length xs → comes_before (get_or xs (length xs - 1) x) x ≡ true) → each_before xs ≡ true → each_before (xs ++ x ∷ []) ≡ true
 each_before_pushed [] x last h = refl
@@ -83,12 +89,18 @@ each_before_pushed (a ∷ b ∷ more) x last h =
     let rest : each_before (b ∷ more ++ x ∷ []) ≡ true = each_before_pushed (b ∷ more) x (λ some. ap (λ i. comes_before (get_or (a ∷ b ∷ more) i x) x) (sym e) ∙ last (omega arith)) parts.1 in
     ap (λ c. c && each_before (b ∷ more ++ x ∷ [])) parts.0 ∙ rest
 
-pub depends_grow : (before : List Depend) (depend : Depend) → depend_follows (last_of before) depend ≡ true → IsNode depend.node → IsPackageName depend.name → IsDependList before → IsDependList (before ++ depend ∷ [])
-depends_grow before depend follows node name b = record {
-  order = each_before_pushed before depend (depend_behind before depend follows) b.order;
+needs_grow : (before : List Depend) (depend : Depend) → (0 < length before → comes_before (get_or before (length before - 1) depend) depend ≡ true) → IsNode depend.node → IsPackageName depend.name → IsDependList before
+    → IsDependList (before ++ depend ∷ [])
+needs_grow before depend follows node name b = record {
+  order = each_before_pushed before depend follows b.order;
   nodes = all_pushed (λ d. IsNode d.node) before depend b.nodes node;
   names = all_pushed (λ d. IsPackageName d.name) before depend b.names name;
 }
+
+pub depends_grow : (before : List Recorded) (depend : Recorded) → depend_follows (last_of before) depend ≡ true → IsNode depend.node → IsPackageName depend.name → IsRecordedList before → IsRecordedList (before ++ depend ∷ [])
+depends_grow before depend follows node name b =
+    subst IsDependList (sym (map-append need_of before (depend ∷ [])))
+    (needs_grow (map need_of before) (need_of depend) (depend_behind before depend follows) node name b)
 
 -- ---- files
 

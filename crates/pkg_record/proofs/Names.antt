@@ -15,7 +15,7 @@ use Rattle.bulk_base.proofs.TextTests.{is_text-plain}
 use Rattle.bulk_base.specs.Marks.{is_mark, front, back}
 use Rattle.port_name.specs.Forms.{is_origin, is_node}
 use Rattle.port_name.specs.PackageForm.{is_revised, is_full_version, is_parted_at, some_below, is_package_name}
-use Rattle.pkg_record.specs.Forms.{is_hex_byte, is_digest}
+use Rattle.bulk_model.specs.Digests.{is_hex_byte, is_digest}
 
 -- a byte that is neither blank nor the end of a line
 abbrev pub is_visible : ℕ → Bool

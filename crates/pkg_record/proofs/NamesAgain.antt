@@ -8,7 +8,7 @@ use Rattle.std.proofs.lemmas.List.Folds.{list_all-append}
 use Rattle.std.proofs.lemmas.List.Sums.{position_or_len_is, AllPass-from_list_all}
 use Rattle.std.proofs.Math.Seq.{get_or-append_seam, take-append_seam}
 use Rattle.std.proofs.lemmas.Bool.{and_from}
-use Rattle.bulk_base.specs.Names.{is_digit, is_alphanumeric, is_made_of, is_port_byte, is_port_name, is_flavor, is_version, is_shown_number, IsOrigin, IsNode, IsPackageName, node_of}
+use Rattle.bulk_base.specs.Names.{is_digit, is_alphanumeric, is_made_of, is_port_byte, is_port_name, is_version, is_shown_number, IsOrigin, IsNode, IsPackageName}
 use Rattle.bulk_base.specs.Marks.{is_mark, front, back}
 use Rattle.port_name.specs.Forms.{is_origin, is_node}
 use Rattle.port_name.specs.PackageForm.{is_revised, is_full_version, is_parted_at, some_below, is_package_name}

@@ -1,5 +1,5 @@
 -- What is spelled in a line is said by its text, and the line is read whatever follows it.
-use Rattle.std.proofs.Common.{◌≡◌, ℕ, ◌+◌, ◌%◌, ◌<◌, ◌^◌, Bool, true, false, List, [], ◌∷◌, ◌++◌, length, get_or, take, drop, codes, ltb, arith, refl, ap, ap₂, sym, ◌∙◌, inl, inr, append_assoc, zero, suc}
+use Rattle.std.proofs.Common.{◌≡◌, ℕ, ◌+◌, ◌%◌, ◌<◌, ◌^◌, Bool, true, false, List, [], ◌∷◌, ◌++◌, length, get_or, take, drop, codes, ltb, arith, refl, ap, ap₂, sym, ◌∙◌, inl, inr, append_assoc, append-nil, zero, suc}
 use Rattle.std.specs.Prelude.{◌⊎◌, ◌&&◌, ◌==◌, nat_eq, Option, Some, None, Ok, Err, cond, bytes_eq, IsTrue, IfSome}
 use Rattle.std.specs.Option.{option_map, option_and_then}
 use Rattle.std.specs.List.{list_all, starts_with}
@@ -16,17 +16,24 @@ use Rattle.std.proofs.Math.Seq.{get_or-append_seam, take-append_seam}
 use Rattle.bulk_base.proofs.Digits.{own}
 use Rattle.bulk_base.specs.declared.file.Switch.{Switch}
 use Rattle.bulk_base.specs.Names.{is_flavor, is_option_name}
-use Rattle.bulk_model.specs.declared.depend.Depend.{Depend}
+use Rattle.bulk_model.specs.declared.depend.Recorded.{Recorded}
+use Rattle.bulk_model.specs.declared.digest.Digest.{Digest}
+use Rattle.bulk_model.specs.declared.version.Version.{Version}
+use Rattle.bulk_model.specs.declared.version.Version.TheVariants.{One, Two}
+use Rattle.bulk_model.specs.Digests.{no_digest, hex}
 use Rattle.bulk_model.specs.declared.depend.DepKind.{DepKind}
 use Rattle.bulk_model.specs.declared.depend.DepKind.TheVariants.{Pkg, Fetch, Extract, Patch, Build, Lib, Run}
-use Rattle.bulk_model.specs.Spelling.{line, kind_word, flavor_word, switch_word}
+use Rattle.bulk_model.specs.Lines.{line, kind_word, flavor_word, switch_word, depend_words}
+use Rattle.bulk_model.specs.Spelling.{version_words, mark_word}
+use Rattle.pkg_record.specs.Laws.{IsDigest}
 use Rattle.pkg_record.specs.declared.fault.Fault.TheVariants.{Short, Misfit}
 use Rattle.bulk_base.specs.Marks.{front, back}
 use Rattle.port_name.specs.Forms.{is_node}
 use Rattle.port_name.specs.PackageForm.{is_package_name}
-use Rattle.pkg_record.specs.Said.{behind, passing, word_behind, flavor_of, flavor_said, is_numeral, count_of, count_behind, switch_of, switch, named_switch, switch_in, option_said, kind_of, depend, named_depend, depend_in, depend_said, file_in, file_said}
+use Rattle.pkg_record.specs.Said.{behind, passing, word_behind, flavor_of, flavor_said, is_numeral, count_of, count_behind, switch_of, switch, named_switch, switch_in, option_said, kind_of, version_said, digest_said, recipe_said, recorded, mark_in, noted, named_depend, depend_in, depend_said, file_in, file_said}
 use Rattle.pkg_record.specs.Reading.{◌>>=◌, line_at, fitting, said_at, piece_at}
-use Rattle.pkg_record.proofs.Names.{is_visible, is_plain, list_all-weaken, option_name, node_plain}
+use Rattle.pkg_record.proofs.Names.{is_visible, is_plain, list_all-weaken, option_name, node_plain, package_name_plain}
+use Rattle.pkg_record.proofs.DigestTexts.{digest_again}
 use Rattle.pkg_record.proofs.NamesAgain.{differs, Lacks, front_again, back_again, found_below}
 
 -- ---- a line
@@ -143,22 +150,54 @@ kind_word_again Run = (refl, refl, refl)
 pub kind_line : (kind : DepKind) → Lacks 10 (kind_word kind)
 kind_line kind = (kind_word_again kind).2
 
-depend_words_again : (kind : DepKind) (node name : List ℕ) → is_node node ≡ true → is_package_name name ≡ true → depend_in (kind_word kind ++ 32 ∷ (node ++ 32 ∷ name)) ≡ Some (depend kind node name)
-depend_words_again kind node name n m =
-    let k = kind_word_again kind in
-    let rest = node ++ 32 ∷ name in
-    let lacks : Lacks 32 node = plain_word node (node_plain node n) in
-    ap₂ (λ a b. option_and_then (named_depend (front 32 b) (back 32 b)) (kind_of a)) (front_again 32 (kind_word kind) rest k.1) (back_again 32 (kind_word kind) rest k.1)
-    ∙ ap (option_and_then (named_depend (front 32 rest) (back 32 rest))) k.0
-    ∙ ap₂ (λ a b. named_depend a b kind) (front_again 32 node name lacks) (back_again 32 node name lacks)
-    ∙ ap (λ b. cond b (Some (depend kind node name)) None) (and_from _ _ n m)
+-- what a version tells of a digest: nothing, so that there is none; or the digest
+abbrev pub Tells : Version → Digest → Type 0
+Tells One digest = digest ≡ no_digest
+Tells Two digest = IsDigest digest
 
-pub depend_again : (d : Depend) → is_node d.node ≡ true → is_package_name d.name ≡ true → depend_said (codes "depend " ++ kind_word d.kind ++ codes " " ++ d.node ++ codes " " ++ d.name) ≡ Some d
-depend_again d n m =
-    let words = kind_word d.kind ++ 32 ∷ (d.node ++ 32 ∷ d.name) in
-    let e : codes "depend " ++ kind_word d.kind ++ codes " " ++ d.node ++ codes " " ++ d.name ≡ codes "depend " ++ words =
-    spaced_back (codes "depend " ++ kind_word d.kind ++ codes " ") d.node d.name ∙ spaced_back (codes "depend ") (kind_word d.kind) (d.node ++ 32 ∷ d.name) in
-    ap depend_said e ∙ ap (option_and_then depend_in) (heading_again (codes "depend ") words) ∙ depend_words_again d.kind d.node d.name n m
+mark_again : (version : Version) (name : List ℕ) (digest : Digest) → Lacks 32 name → Tells version digest → mark_in version (name ++ mark_word version digest) ≡ Some (name, digest)
+mark_again One name digest lacks told = ap₂ (λ a b. Some (a, b)) (append-nil name) (sym told)
+mark_again Two name digest lacks told =
+    ap₂ (λ a b. option_map (λ d. (a, d)) (digest_said b)) (front_again 32 name (hex digest) lacks) (back_again 32 name (hex digest) lacks)
+    ∙ ap (option_map (λ d. (name, d))) (digest_again digest told)
+
+depend_words_again : (version : Version) (kind : DepKind) (node name : List ℕ) (digest : Digest) → is_node node ≡ true → is_package_name name ≡ true → Tells version digest
+    → depend_in version (kind_word kind ++ 32 ∷ (node ++ 32 ∷ (name ++ mark_word version digest))) ≡ Some (recorded kind node name digest)
+depend_words_again version kind node name digest n m told =
+    let k = kind_word_again kind in
+    let last = name ++ mark_word version digest in
+    let rest = node ++ 32 ∷ last in
+    let lacks : Lacks 32 node = plain_word node (node_plain node n) in
+    ap₂ (λ a b. option_and_then (named_depend version (front 32 b) (back 32 b)) (kind_of a)) (front_again 32 (kind_word kind) rest k.1) (back_again 32 (kind_word kind) rest k.1)
+    ∙ ap (option_and_then (named_depend version (front 32 rest) (back 32 rest))) k.0
+    ∙ ap₂ (λ a b. named_depend version a b kind) (front_again 32 node last lacks) (back_again 32 node last lacks)
+    ∙ ap (option_and_then (noted kind node)) (mark_again version name digest (plain_word name (package_name_plain name m)) told)
+    ∙ ap (λ b. cond b (Some (recorded kind node name digest)) None) (and_from _ _ n m)
+
+pub depend_again : (version : Version) (d : Recorded) → is_node d.node ≡ true → is_package_name d.name ≡ true → Tells version d.digest
+    → depend_said version (depend_words d.kind d.node d.name ++ mark_word version d.digest) ≡ Some d
+depend_again version d n m told =
+    let head = codes "depend " ++ kind_word d.kind ++ codes " " in
+    let last = d.name ++ mark_word version d.digest in
+    let words = kind_word d.kind ++ 32 ∷ (d.node ++ 32 ∷ last) in
+    let e : depend_words d.kind d.node d.name ++ mark_word version d.digest ≡ codes "depend " ++ words =
+    append_assoc (head ++ d.node ++ codes " ") d.name (mark_word version d.digest)
+    ∙ spaced_back head d.node last
+    ∙ spaced_back (codes "depend ") (kind_word d.kind) (d.node ++ 32 ∷ last) in
+    ap (depend_said version) e
+    ∙ ap (option_and_then (depend_in version)) (heading_again (codes "depend ") words)
+    ∙ depend_words_again version d.kind d.node d.name d.digest n m told
+
+pub version_again : (version : Version) → version_said (version_words version) ≡ Some version
+version_again One = refl
+version_again Two = refl
+
+pub version_line : (version : Version) → Lacks 10 (version_words version)
+version_line One = refl
+version_line Two = refl
+
+pub recipe_again : (recipe : Digest) → IsDigest recipe → recipe_said (codes "recipe " ++ hex recipe) ≡ Some recipe
+recipe_again recipe h = ap (option_and_then digest_said) (heading_again (codes "recipe ") (hex recipe)) ∙ digest_again recipe h
 
 pub file_again : (size : ℕ) (path : List ℕ) → size < 2 ^ 64 → file_said (codes "file " ++ decimal size ++ codes " " ++ path) ≡ Some (size, path)
 file_again size path l =

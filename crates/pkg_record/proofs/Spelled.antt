@@ -1,34 +1,33 @@
 -- What is read as a package is spelled so.
-use Rattle.std.proofs.Common.{◌≡◌, ℕ, ◌-◌, zero, suc, Bool, true, false, List, [], ◌∷◌, ◌++◌, length, take, codes, arith, refl, ap, ap₂, sym, subst, ◌∙◌, append_assoc, append-nil}
-use Rattle.std.specs.Prelude.{◌==◌, ◌≢◌, Option, Some, Result, Ok, Err, IfOk, cond, bytes_eq}
+use Rattle.std.proofs.Common.{◌≡◌, ℕ, ◌-◌, zero, suc, Bool, true, List, [], ◌∷◌, ◌++◌, length, take, codes, arith, refl, ap, ap₂, sym, subst, ◌∙◌, append_assoc, append-nil}
+use Rattle.std.specs.Prelude.{◌==◌, ◌≢◌, Option, Some, Result, Ok, Err, cond}
 use Rattle.std.specs.Option.{option_and_then}
 use Rattle.std.specs.List.{flat_map}
 use Rattle.std.specs.Fmt.{decimal}
 use Rattle.std.proofs.lemmas.Bool.{eqb-true}
 use Rattle.std.proofs.lemmas.List.{length-append, nil_from_length}
 use Rattle.std.proofs.lemmas.List.Concat.{flat_map-cons}
-use Rattle.std.proofs.lemmas.Slice.Eq.{bytes_eq-Decides}
 use Rattle.std.proofs.Math.Seq.{take-append_seam}
-use Rattle.sha2.specs.Sha256.{sha256}
-use Rattle.hex.specs.Hex.{encode_lower}
 use Rattle.bulk_base.specs.declared.file.FileItem.{FileItem}
 use Rattle.bulk_base.specs.declared.file.Switch.{Switch}
-use Rattle.bulk_model.specs.declared.depend.Depend.{Depend}
+use Rattle.bulk_model.specs.declared.depend.Recorded.{Recorded}
+use Rattle.bulk_model.specs.declared.digest.Digest.{Digest}
+use Rattle.bulk_model.specs.declared.version.Version.{Version}
+use Rattle.bulk_model.specs.declared.version.Version.TheVariants.{One, Two}
+use Rattle.bulk_model.specs.Digests.{digest_of, no_digest, hex, is_digest}
 use Rattle.bulk_model.specs.Facts.{IsPackage}
+use Rattle.bulk_model.specs.Lines.{line, flavor_word, name_lines, option_line, option_lines, file_piece}
+use Rattle.bulk_model.specs.Spelling.{version_words, recipe_line, recorded_line, recorded_lines, unsigned, signed_with, signed}
 use Rattle.bulk_model.specs.Views.{PackageView}
-use Rattle.bulk_model.specs.Spelling.{line, flavor_word, option_line, depend_line, file_piece, unsigned, signed_with, spelling}
 use Rattle.pkg_record.specs.declared.fault.Fault.{Fault}
-use Rattle.pkg_record.specs.declared.fault.Fault.TheVariants.{Short, Misfit}
-use Rattle.pkg_record.specs.declared.fault.RecordError.{RecordError}
-use Rattle.pkg_record.specs.declared.fault.RecordError.TheVariants as records
+use Rattle.pkg_record.specs.declared.fault.Fault.TheVariants.{Misfit}
 use Rattle.port_name.specs.Forms.{is_origin}
 use Rattle.port_name.specs.PackageForm.{is_package_name}
-use Rattle.pkg_record.specs.Forms.{is_digest}
-use Rattle.pkg_record.specs.Said.{behind, passing, word_behind, flavor_said, count_behind, option_said, depend_said, file_said}
-use Rattle.pkg_record.specs.Reading.{◌>>=◌, said_at, piece_at, last_of, option_follows, next_option, option_at, depend_follows, next_depend, depend_at, is_next_path, next_file, file_at, items_at, listed_at, unsigned_at, Signed, signed, signed_at, digest_of, judged, record_of}
-use Rattle.pkg_record.specs.Laws.{HasOtherDigest}
+use Rattle.pkg_record.specs.Said.{behind, passing, word_behind, version_said, flavor_said, recipe_said, count_behind, option_said, depend_said, file_said}
+use Rattle.pkg_record.specs.Reading.{◌>>=◌, said_at, piece_at, last_of, option_follows, next_option, option_at, depend_follows, next_depend, depend_at, is_next_path, next_file, file_at, items_at, listed_at, recipe_at, package_told, unsigned_at, Signed, signed as signed_as, signed_at, digest_before, answer}
+use Rattle.pkg_record.specs.Laws.{IsSpelled, HasOtherDigest}
 use Rattle.pkg_record.proofs.NextPath.{may_follow}
-use Rattle.pkg_record.proofs.Taken.{bind_ok, then_some, given, given_ok, ok_is, said_taken, word_taken, flavor_taken, count_taken, option_taken, depend_taken, path_filled, file_taken, piece_taken}
+use Rattle.pkg_record.proofs.Taken.{bind_ok, then_some, given, given_ok, ok_is, said_taken, word_taken, flavor_taken, count_taken, option_taken, version_taken, recipe_taken, depend_taken, path_filled, file_taken, piece_taken}
 
 -- ---- items
 
@@ -40,13 +39,13 @@ option_item before bytes option rest e =
     let g = given (option_follows (last_of before) t.0) t.0 option t.2 in
     s.2 ∙ ap (λ l. l ++ rest) (option_taken s.0 t.0 t.1 ∙ ap option_line g.1)
 
-depend_item : (before : List Depend) (bytes : List ℕ) (found : Depend) (rest : List ℕ) → depend_at before bytes ≡ Ok (found, rest) → bytes ≡ depend_line found ++ rest
+depend_item : (version : Version) (before : List Recorded) (bytes : List ℕ) (found : Recorded) (rest : List ℕ) → depend_at version before bytes ≡ Ok (found, rest) → bytes ≡ recorded_line version found ++ rest
 unfolding depend_at
-depend_item before bytes found rest e =
-    let s = said_taken (λ text. option_and_then (next_depend before) (depend_said text)) bytes found rest e in
-    let t = then_some (depend_said s.0) (next_depend before) found s.1 in
+depend_item version before bytes found rest e =
+    let s = said_taken (λ text. option_and_then (next_depend before) (depend_said version text)) bytes found rest e in
+    let t = then_some (depend_said version s.0) (next_depend before) found s.1 in
     let g = given (depend_follows (last_of before) t.0) t.0 found t.2 in
-    s.2 ∙ ap (λ l. l ++ rest) (depend_taken s.0 t.0 t.1 ∙ ap depend_line g.1)
+    s.2 ∙ ap (λ l. l ++ rest) (depend_taken version s.0 t.0 t.1 ∙ ap (recorded_line version) g.1)
 
 abbrev pub file_made : List ℕ → List ℕ → FileItem
 file_made path bytes = record { path = path; bytes = bytes }
@@ -101,41 +100,22 @@ listed_taken heading item spell takes bytes all rest e =
 joined_one : (done bytes a r : List ℕ) → bytes ≡ a ++ r → done ++ bytes ≡ (done ++ a) ++ r
 joined_one done bytes a r e = ap (λ t. done ++ t) e ∙ sym (append_assoc done a r)
 
-joined_two : (done bytes a m b r : List ℕ) → bytes ≡ a ++ m → m ≡ b ++ r → done ++ bytes ≡ ((done ++ a) ++ b) ++ r
-joined_two done bytes a m b r e f = joined_one done bytes a m e ∙ joined_one (done ++ a) m b r f
+joined_in : (v a bytes b r : List ℕ) → bytes ≡ b ++ r → (v ++ a) ++ bytes ≡ (v ++ (a ++ b)) ++ r
+joined_in v a bytes b r e = joined_one (v ++ a) bytes b r e ∙ ap (λ t. t ++ r) (append_assoc v a b)
 
-abbrev pub packed : List ℕ → List ℕ → Option (List ℕ) → List Switch → List Depend → List FileItem → PackageView
-packed name origin flavor options depends files = record { name = name; origin = origin; flavor = flavor; options = options; depends = depends; files = files }
+joined_two : (done bytes a m b r : List ℕ) → bytes ≡ a ++ m → m ≡ b ++ r → done ++ bytes ≡ (done ++ (a ++ b)) ++ r
+joined_two done bytes a m b r e f = joined_one done bytes (a ++ b) r (e ∙ ap (λ t. a ++ t) f ∙ sym (append_assoc a b r))
+
+abbrev pub Told : Type 0
+Told = Version × PackageView
 
 abbrev pub Reads : Type 0
-Reads = List ℕ → Result (PackageView × List ℕ) Fault
+Reads = List ℕ → Result (Told × List ℕ) Fault
 
-abbrev pub from_files : List ℕ → List ℕ → Option (List ℕ) → List Switch → List Depend → Reads
-from_files name origin flavor options depends bytes = listed_at (codes "files ") file_at bytes >>= λ files. Ok (packed name origin flavor options depends files.0, files.1)
-
-abbrev pub from_depends : List ℕ → List ℕ → Option (List ℕ) → List Switch → Reads
-from_depends name origin flavor options bytes = listed_at (codes "depends ") depend_at bytes >>= λ depends. from_files name origin flavor options depends.0 depends.1
-
-abbrev pub from_options : List ℕ → List ℕ → Option (List ℕ) → Reads
-from_options name origin flavor bytes = listed_at (codes "options ") option_at bytes >>= λ options. from_depends name origin flavor options.0 options.1
-
-abbrev pub from_flavor : List ℕ → List ℕ → Reads
-from_flavor name origin bytes = said_at flavor_said bytes >>= λ flavor. from_options name origin flavor.0 flavor.1
-
-abbrev pub from_origin : List ℕ → Reads
-from_origin name bytes = said_at (word_behind (codes "origin ") is_origin) bytes >>= λ origin. from_flavor name origin.0 origin.1
-
-abbrev pub from_name : Reads
-from_name bytes = said_at (word_behind (codes "name ") is_package_name) bytes >>= λ name. from_origin name.0 name.1
-
-abbrev pub is_version_line : List ℕ → Bool
-is_version_line text = bytes_eq text (codes "poudriere-package 1")
-
-version_taken : (bytes text rest : List ℕ) → said_at (passing is_version_line) bytes ≡ Ok (text, rest) → bytes ≡ line (codes "poudriere-package 1") ++ rest
-version_taken bytes text rest e =
-    let s = said_taken (passing is_version_line) bytes text rest e in
-    let g = given (is_version_line s.0) s.0 text s.1 in
-    s.2 ∙ ap (λ t. line t ++ rest) ((bytes_eq-Decides s.0 (codes "poudriere-package 1")).0 g.0)
+version_line_taken : (bytes : List ℕ) (version : Version) (rest : List ℕ) → said_at version_said bytes ≡ Ok (version, rest) → bytes ≡ line (version_words version) ++ rest
+version_line_taken bytes version rest e =
+    let s = said_taken version_said bytes version rest e in
+    s.2 ∙ ap (λ t. line t ++ rest) (version_taken s.0 version s.1)
 
 word_line_taken : (heading : List ℕ) (test : List ℕ → Bool) (bytes word rest : List ℕ) → said_at (word_behind heading test) bytes ≡ Ok (word, rest) → bytes ≡ line (heading ++ word) ++ rest
 word_line_taken heading test bytes word rest e =
@@ -147,79 +127,122 @@ flavor_line_taken bytes flavor rest e =
     let s = said_taken flavor_said bytes flavor rest e in
     s.2 ∙ ap (λ t. line t ++ rest) (flavor_taken s.0 flavor s.1)
 
--- the spelling up to some line
-abbrev pub up_to_version : List ℕ
-up_to_version = line (codes "poudriere-package 1")
+recipe_line_taken : (version : Version) (bytes : List ℕ) (recipe : Digest) (rest : List ℕ) → recipe_at version bytes ≡ Ok (recipe, rest) → bytes ≡ recipe_line version recipe ++ rest
+unfolding recipe_at
+recipe_line_taken One bytes recipe rest e = ap (λ (x : Digest × List ℕ). x.1) (ok_is (no_digest, bytes) (recipe, rest) e)
+recipe_line_taken Two bytes recipe rest e =
+    let s = said_taken recipe_said bytes recipe rest e in
+    s.2 ∙ ap (λ t. line t ++ rest) (recipe_taken s.0 recipe s.1)
 
-abbrev pub up_to_name : List ℕ → List ℕ
-up_to_name name = up_to_version ++ line (codes "name " ++ name)
+module _ (version : Version) where
+  abbrev pub from_files : List ℕ → List ℕ → Option (List ℕ) → Digest → List Switch → List Recorded → Reads
+  from_files name origin flavor recipe options depends bytes =
+      listed_at (codes "files ") file_at bytes >>= λ files. Ok ((version, package_told name origin flavor recipe options depends files.0), files.1)
 
-abbrev pub up_to_origin : List ℕ → List ℕ → List ℕ
-up_to_origin name origin = up_to_name name ++ line (codes "origin " ++ origin)
+  abbrev pub from_depends : List ℕ → List ℕ → Option (List ℕ) → Digest → List Switch → Reads
+  from_depends name origin flavor recipe options bytes =
+      listed_at (codes "depends ") (depend_at version) bytes >>= λ depends. from_files name origin flavor recipe options depends.0 depends.1
 
-abbrev pub up_to_flavor : List ℕ → List ℕ → Option (List ℕ) → List ℕ
-up_to_flavor name origin flavor = up_to_origin name origin ++ line (codes "flavor " ++ flavor_word flavor)
+  abbrev pub from_options : List ℕ → List ℕ → Option (List ℕ) → Digest → Reads
+  from_options name origin flavor recipe bytes =
+      listed_at (codes "options ") option_at bytes >>= λ options. from_depends name origin flavor recipe options.0 options.1
 
-abbrev pub up_to_options : List ℕ → List ℕ → Option (List ℕ) → List Switch → List ℕ
-up_to_options name origin flavor options = up_to_flavor name origin flavor ++ line (codes "options " ++ decimal (length options)) ++ flat_map option_line options
+  abbrev pub from_recipe : List ℕ → List ℕ → Option (List ℕ) → Reads
+  from_recipe name origin flavor bytes = recipe_at version bytes >>= λ recipe. from_options name origin flavor recipe.0 recipe.1
 
-abbrev pub up_to_depends : List ℕ → List ℕ → Option (List ℕ) → List Switch → List Depend → List ℕ
-up_to_depends name origin flavor options depends = up_to_options name origin flavor options ++ line (codes "depends " ++ decimal (length depends)) ++ flat_map depend_line depends
+  abbrev pub from_flavor : List ℕ → List ℕ → Reads
+  from_flavor name origin bytes = said_at flavor_said bytes >>= λ flavor. from_recipe name origin flavor.0 flavor.1
 
-files_taken : (name origin : List ℕ) (flavor : Option (List ℕ)) (options : List Switch) (depends : List Depend) (bytes : List ℕ) (p : PackageView) (rest : List ℕ)
-    → from_files name origin flavor options depends bytes ≡ Ok (p, rest) → up_to_depends name origin flavor options depends ++ bytes ≡ unsigned p ++ rest
-files_taken name origin flavor options depends bytes p rest e =
-    let b = bind_ok (listed_at (codes "files ") file_at bytes) (λ files. Ok (packed name origin flavor options depends files.0, files.1)) (p, rest) e in
-    let l = listed_taken (codes "files ") file_at file_piece file_item bytes b.0.0 b.0.1 b.1 in
-    let whole : up_to_depends name origin flavor options depends ++ bytes ≡ unsigned (packed name origin flavor options depends b.0.0) ++ b.0.1 =
-    joined_two (up_to_depends name origin flavor options depends) bytes (line (codes "files " ++ decimal (length b.0.0))) l.0 (flat_map file_piece b.0.0) b.0.1 l.1 l.2 in
-    subst (λ (x : PackageView × List ℕ). up_to_depends name origin flavor options depends ++ bytes ≡ unsigned x.0 ++ x.1) (ok_is (packed name origin flavor options depends b.0.0, b.0.1) (p, rest) b.2) whole
+  abbrev pub from_origin : List ℕ → Reads
+  from_origin name bytes = said_at (word_behind (codes "origin ") is_origin) bytes >>= λ origin. from_flavor name origin.0 origin.1
 
-depends_taken : (name origin : List ℕ) (flavor : Option (List ℕ)) (options : List Switch) (bytes : List ℕ) (p : PackageView) (rest : List ℕ)
-    → from_depends name origin flavor options bytes ≡ Ok (p, rest) → up_to_options name origin flavor options ++ bytes ≡ unsigned p ++ rest
-depends_taken name origin flavor options bytes p rest e =
-    let b = bind_ok (listed_at (codes "depends ") depend_at bytes) (λ depends. from_files name origin flavor options depends.0 depends.1) (p, rest) e in
-    let l = listed_taken (codes "depends ") depend_at depend_line depend_item bytes b.0.0 b.0.1 b.1 in
-    joined_two (up_to_options name origin flavor options) bytes (line (codes "depends " ++ decimal (length b.0.0))) l.0 (flat_map depend_line b.0.0) b.0.1 l.1 l.2
-    ∙ files_taken name origin flavor options b.0.0 b.0.1 p rest b.2
+  abbrev pub from_name : Reads
+  from_name bytes = said_at (word_behind (codes "name ") is_package_name) bytes >>= λ name. from_origin name.0 name.1
 
-options_taken : (name origin : List ℕ) (flavor : Option (List ℕ)) (bytes : List ℕ) (p : PackageView) (rest : List ℕ)
-    → from_options name origin flavor bytes ≡ Ok (p, rest) → up_to_flavor name origin flavor ++ bytes ≡ unsigned p ++ rest
-options_taken name origin flavor bytes p rest e =
-    let b = bind_ok (listed_at (codes "options ") option_at bytes) (λ options. from_depends name origin flavor options.0 options.1) (p, rest) e in
-    let l = listed_taken (codes "options ") option_at option_line option_item bytes b.0.0 b.0.1 b.1 in
-    joined_two (up_to_flavor name origin flavor) bytes (line (codes "options " ++ decimal (length b.0.0))) l.0 (flat_map option_line b.0.0) b.0.1 l.1 l.2
-    ∙ depends_taken name origin flavor b.0.0 b.0.1 p rest b.2
+  -- the spelling up to some line
+  abbrev pub up_to_version : List ℕ
+  up_to_version = line (version_words version)
 
-from_flavor_taken : (name origin bytes : List ℕ) (p : PackageView) (rest : List ℕ) → from_flavor name origin bytes ≡ Ok (p, rest) → up_to_origin name origin ++ bytes ≡ unsigned p ++ rest
-from_flavor_taken name origin bytes p rest e =
-    let b = bind_ok (said_at flavor_said bytes) (λ flavor. from_options name origin flavor.0 flavor.1) (p, rest) e in
-    joined_one (up_to_origin name origin) bytes (line (codes "flavor " ++ flavor_word b.0.0)) b.0.1 (flavor_line_taken bytes b.0.0 b.0.1 b.1)
-    ∙ options_taken name origin b.0.0 b.0.1 p rest b.2
+  abbrev pub up_to_flavor : List ℕ → List ℕ → Option (List ℕ) → List ℕ
+  up_to_flavor name origin flavor = up_to_version ++ name_lines name origin flavor
 
-from_origin_taken : (name bytes : List ℕ) (p : PackageView) (rest : List ℕ) → from_origin name bytes ≡ Ok (p, rest) → up_to_name name ++ bytes ≡ unsigned p ++ rest
-from_origin_taken name bytes p rest e =
-    let b = bind_ok (said_at (word_behind (codes "origin ") is_origin) bytes) (λ origin. from_flavor name origin.0 origin.1) (p, rest) e in
-    joined_one (up_to_name name) bytes (line (codes "origin " ++ b.0.0)) b.0.1 (word_line_taken (codes "origin ") is_origin bytes b.0.0 b.0.1 b.1)
-    ∙ from_flavor_taken name b.0.0 b.0.1 p rest b.2
+  abbrev pub up_to_recipe : List ℕ → List ℕ → Option (List ℕ) → Digest → List ℕ
+  up_to_recipe name origin flavor recipe = up_to_flavor name origin flavor ++ recipe_line version recipe
 
-from_name_taken : (bytes : List ℕ) (p : PackageView) (rest : List ℕ) → from_name bytes ≡ Ok (p, rest) → up_to_version ++ bytes ≡ unsigned p ++ rest
-from_name_taken bytes p rest e =
-    let b = bind_ok (said_at (word_behind (codes "name ") is_package_name) bytes) (λ name. from_origin name.0 name.1) (p, rest) e in
-    joined_one up_to_version bytes (line (codes "name " ++ b.0.0)) b.0.1 (word_line_taken (codes "name ") is_package_name bytes b.0.0 b.0.1 b.1)
-    ∙ from_origin_taken b.0.0 b.0.1 p rest b.2
+  abbrev pub up_to_options : List ℕ → List ℕ → Option (List ℕ) → Digest → List Switch → List ℕ
+  up_to_options name origin flavor recipe options = up_to_recipe name origin flavor recipe ++ option_lines options
 
-pub unsigned_taken : (bytes : List ℕ) (p : PackageView) (rest : List ℕ) → unsigned_at bytes ≡ Ok (p, rest) → bytes ≡ unsigned p ++ rest
+  abbrev pub up_to_depends : List ℕ → List ℕ → Option (List ℕ) → Digest → List Switch → List Recorded → List ℕ
+  up_to_depends name origin flavor recipe options depends = up_to_options name origin flavor recipe options ++ recorded_lines version depends
+
+  -- what is read from some line on is what the bytes before it and these spell
+  abbrev Spells : List ℕ → List ℕ → Told → List ℕ → Type 0
+  Spells before bytes t rest = before ++ bytes ≡ unsigned t.0 t.1 ++ rest
+
+  files_taken : (name origin : List ℕ) (flavor : Option (List ℕ)) (recipe : Digest) (options : List Switch) (depends : List Recorded) (bytes : List ℕ) (t : Told) (rest : List ℕ)
+      → from_files name origin flavor recipe options depends bytes ≡ Ok (t, rest) → Spells (up_to_depends name origin flavor recipe options depends) bytes t rest
+  files_taken name origin flavor recipe options depends bytes t rest e =
+      let before = up_to_depends name origin flavor recipe options depends in
+      let b = bind_ok (listed_at (codes "files ") file_at bytes) (λ files. Ok ((version, package_told name origin flavor recipe options depends files.0), files.1)) (t, rest) e in
+      let l = listed_taken (codes "files ") file_at file_piece file_item bytes b.0.0 b.0.1 b.1 in
+      let made : Told = (version, package_told name origin flavor recipe options depends b.0.0) in
+      let whole : Spells before bytes made b.0.1 =
+      joined_two before bytes (line (codes "files " ++ decimal (length b.0.0))) l.0 (flat_map file_piece b.0.0) b.0.1 l.1 l.2 in
+      subst (λ (x : Told × List ℕ). Spells before bytes x.0 x.1) (ok_is (made, b.0.1) (t, rest) b.2) whole
+
+  depends_taken : (name origin : List ℕ) (flavor : Option (List ℕ)) (recipe : Digest) (options : List Switch) (bytes : List ℕ) (t : Told) (rest : List ℕ)
+      → from_depends name origin flavor recipe options bytes ≡ Ok (t, rest) → Spells (up_to_options name origin flavor recipe options) bytes t rest
+  depends_taken name origin flavor recipe options bytes t rest e =
+      let b = bind_ok (listed_at (codes "depends ") (depend_at version) bytes) (λ depends. from_files name origin flavor recipe options depends.0 depends.1) (t, rest) e in
+      let l = listed_taken (codes "depends ") (depend_at version) (recorded_line version) (depend_item version) bytes b.0.0 b.0.1 b.1 in
+      joined_two (up_to_options name origin flavor recipe options) bytes (line (codes "depends " ++ decimal (length b.0.0))) l.0 (flat_map (recorded_line version) b.0.0) b.0.1 l.1 l.2
+      ∙ files_taken name origin flavor recipe options b.0.0 b.0.1 t rest b.2
+
+  options_taken : (name origin : List ℕ) (flavor : Option (List ℕ)) (recipe : Digest) (bytes : List ℕ) (t : Told) (rest : List ℕ)
+      → from_options name origin flavor recipe bytes ≡ Ok (t, rest) → Spells (up_to_recipe name origin flavor recipe) bytes t rest
+  options_taken name origin flavor recipe bytes t rest e =
+      let b = bind_ok (listed_at (codes "options ") option_at bytes) (λ options. from_depends name origin flavor recipe options.0 options.1) (t, rest) e in
+      let l = listed_taken (codes "options ") option_at option_line option_item bytes b.0.0 b.0.1 b.1 in
+      joined_two (up_to_recipe name origin flavor recipe) bytes (line (codes "options " ++ decimal (length b.0.0))) l.0 (flat_map option_line b.0.0) b.0.1 l.1 l.2
+      ∙ depends_taken name origin flavor recipe b.0.0 b.0.1 t rest b.2
+
+  from_recipe_taken : (name origin : List ℕ) (flavor : Option (List ℕ)) (bytes : List ℕ) (t : Told) (rest : List ℕ)
+      → from_recipe name origin flavor bytes ≡ Ok (t, rest) → Spells (up_to_flavor name origin flavor) bytes t rest
+  from_recipe_taken name origin flavor bytes t rest e =
+      let b = bind_ok (recipe_at version bytes) (λ recipe. from_options name origin flavor recipe.0 recipe.1) (t, rest) e in
+      joined_one (up_to_flavor name origin flavor) bytes (recipe_line version b.0.0) b.0.1 (recipe_line_taken version bytes b.0.0 b.0.1 b.1)
+      ∙ options_taken name origin flavor b.0.0 b.0.1 t rest b.2
+
+  from_flavor_taken : (name origin bytes : List ℕ) (t : Told) (rest : List ℕ) → from_flavor name origin bytes ≡ Ok (t, rest)
+      → Spells (up_to_version ++ (line (codes "name " ++ name) ++ line (codes "origin " ++ origin))) bytes t rest
+  from_flavor_taken name origin bytes t rest e =
+      let b = bind_ok (said_at flavor_said bytes) (λ flavor. from_recipe name origin flavor.0 flavor.1) (t, rest) e in
+      joined_in up_to_version (line (codes "name " ++ name) ++ line (codes "origin " ++ origin)) bytes (line (codes "flavor " ++ flavor_word b.0.0)) b.0.1 (flavor_line_taken bytes b.0.0 b.0.1 b.1)
+      ∙ from_recipe_taken name origin b.0.0 b.0.1 t rest b.2
+
+  from_origin_taken : (name bytes : List ℕ) (t : Told) (rest : List ℕ) → from_origin name bytes ≡ Ok (t, rest) → Spells (up_to_version ++ line (codes "name " ++ name)) bytes t rest
+  from_origin_taken name bytes t rest e =
+      let b = bind_ok (said_at (word_behind (codes "origin ") is_origin) bytes) (λ origin. from_flavor name origin.0 origin.1) (t, rest) e in
+      joined_in up_to_version (line (codes "name " ++ name)) bytes (line (codes "origin " ++ b.0.0)) b.0.1 (word_line_taken (codes "origin ") is_origin bytes b.0.0 b.0.1 b.1)
+      ∙ from_flavor_taken name b.0.0 b.0.1 t rest b.2
+
+  from_name_taken : (bytes : List ℕ) (t : Told) (rest : List ℕ) → from_name bytes ≡ Ok (t, rest) → Spells up_to_version bytes t rest
+  from_name_taken bytes t rest e =
+      let b = bind_ok (said_at (word_behind (codes "name ") is_package_name) bytes) (λ name. from_origin name.0 name.1) (t, rest) e in
+      joined_one up_to_version bytes (line (codes "name " ++ b.0.0)) b.0.1 (word_line_taken (codes "name ") is_package_name bytes b.0.0 b.0.1 b.1)
+      ∙ from_origin_taken b.0.0 b.0.1 t rest b.2
+
+pub unsigned_taken : (bytes : List ℕ) (t : Told) (rest : List ℕ) → unsigned_at bytes ≡ Ok (t, rest) → bytes ≡ unsigned t.0 t.1 ++ rest
 unfolding unsigned_at
-unsigned_taken bytes p rest e =
-    let b = bind_ok (said_at (passing is_version_line) bytes) (λ version. from_name version.1) (p, rest) e in
-    version_taken bytes b.0.0 b.0.1 b.1 ∙ from_name_taken b.0.1 p rest b.2
+unsigned_taken bytes t rest e =
+    let b = bind_ok (said_at version_said bytes) (λ version. from_name version.0 version.1) (t, rest) e in
+    version_line_taken bytes b.0.0 b.0.1 b.1 ∙ from_name_taken b.0.0 b.0.1 t rest b.2
 
 -- ---- the whole
 
 record IsSigned (bytes : List ℕ) (s : Signed) : Type 0 where
-  pub spelled : bytes ≡ signed_with s.stated s.read
-  pub before : take s.size bytes ≡ unsigned s.read
+  pub spelled : bytes ≡ signed_with s.version s.stated s.read
+  pub before : take s.size bytes ≡ unsigned s.version s.read
   pub form : is_digest s.stated ≡ true
 
 -- a word that was read behind a heading passes its test
@@ -233,50 +256,34 @@ word_form heading test bytes word rest e =
 signed_taken : (bytes : List ℕ) (s : Signed) → signed_at bytes ≡ Ok s → IsSigned bytes s
 unfolding signed_at
 signed_taken bytes s e =
-    let b = bind_ok (unsigned_at bytes) (λ p. said_at (word_behind (codes "sha256 ") is_digest) p.1 >>= λ digest. cond (length digest.1 == 0) (Ok (signed p.0 digest.0 (length bytes - length p.1))) (Err (Misfit (length digest.1)))) s e in
-    let c = bind_ok (said_at (word_behind (codes "sha256 ") is_digest) b.0.1) (λ digest. cond (length digest.1 == 0) (Ok (signed b.0.0 digest.0 (length bytes - length b.0.1))) (Err (Misfit (length digest.1)))) s b.2 in
-    let g = given_ok (length c.0.1 == 0) (Misfit (length c.0.1)) (signed b.0.0 c.0.0 (length bytes - length b.0.1)) s c.2 in
-    let u : bytes ≡ unsigned b.0.0 ++ b.0.1 = unsigned_taken bytes b.0.0 b.0.1 b.1 in
+    let b = bind_ok (unsigned_at bytes) (λ told. said_at (word_behind (codes "sha256 ") is_digest) told.1 >>= λ digest. cond (length digest.1 == 0) (Ok (signed_as told.0 digest.0 (length bytes - length told.1))) (Err (Misfit (length digest.1)))) s e in
+    let told = b.0.0 in
+    let lines = unsigned told.0 told.1 in
+    let c = bind_ok (said_at (word_behind (codes "sha256 ") is_digest) b.0.1) (λ digest. cond (length digest.1 == 0) (Ok (signed_as told digest.0 (length bytes - length b.0.1))) (Err (Misfit (length digest.1)))) s b.2 in
+    let g = given_ok (length c.0.1 == 0) (Misfit (length c.0.1)) (signed_as told c.0.0 (length bytes - length b.0.1)) s c.2 in
+    let u : bytes ≡ lines ++ b.0.1 = unsigned_taken bytes told b.0.1 b.1 in
     let nothing : c.0.1 ≡ [] = nil_from_length c.0.1 (eqb-true _ _ g.0) in
     let last : b.0.1 ≡ line (codes "sha256 " ++ c.0.0) = word_line_taken (codes "sha256 ") is_digest b.0.1 c.0.0 c.0.1 c.1 ∙ ap (λ r. line (codes "sha256 " ++ c.0.0) ++ r) nothing ∙ append-nil _ in
-    let size : length bytes - length b.0.1 ≡ length (unsigned b.0.0) = omega (arith, ap length u, length-append (unsigned b.0.0) b.0.1) in
-    let made : IsSigned bytes (signed b.0.0 c.0.0 (length bytes - length b.0.1)) = record {
-      spelled = u ∙ ap (λ r. unsigned b.0.0 ++ r) last;
-      before = ap₂ take size u ∙ take-append_seam (unsigned b.0.0) b.0.1;
+    let size : length bytes - length b.0.1 ≡ length lines = omega (arith, ap length u, length-append lines b.0.1) in
+    let made : IsSigned bytes (signed_as told c.0.0 (length bytes - length b.0.1)) = record {
+      spelled = u ∙ ap (λ r. lines ++ r) last;
+      before = ap₂ take size u ∙ take-append_seam lines b.0.1;
       form = word_form (codes "sha256 ") is_digest b.0.1 c.0.0 c.0.1 c.1;
     } in
     subst (IsSigned bytes) g.1 made
 
-abbrev read_as : PackageView → Result PackageView RecordError
-read_as x = Ok x
+-- what states the digest of its lines is a record
+pub is_signed : (bytes found : List ℕ) (s : Signed) → signed_at bytes ≡ Ok s → found ≡ digest_before s.size bytes → s.stated ≡ found → bytes ≡ signed s.version s.read
+is_signed bytes found s e is same =
+    let t = signed_taken bytes s e in
+    t.spelled ∙ ap (λ d. signed_with s.version d s.read) (same ∙ is ∙ ap (λ b. hex (digest_of b)) t.before)
 
-read_is : (x y : PackageView) → read_as x ≡ read_as y → x ≡ y
-read_is x y e = cc
-
-given_read : (b : Bool) (x y : PackageView) (d : RecordError) → cond b (read_as x) (Err d) ≡ Ok y → (b ≡ true) × (x ≡ y)
-given_read true x y d e = (refl, read_is x y e)
-given_read false x y d e = absurd cc
-
-judged_ok : (bytes : List ℕ) (r : Result Signed Fault) (p : PackageView) → judged bytes r ≡ Ok p → (s : Signed) × (r ≡ Ok s) × (s.stated ≡ digest_of s.size bytes) × (s.read ≡ p)
-unfolding judged
-judged_ok bytes (Err Short) p e = absurd cc
-judged_ok bytes (Err (Misfit left)) p e = absurd cc
-judged_ok bytes (Ok s) p e =
-    let g = given_read (bytes_eq s.stated (digest_of s.size bytes)) s.read p (records.BadDigest s.stated (digest_of s.size bytes)) e in
-    (s, refl, (bytes_eq-Decides s.stated (digest_of s.size bytes)).0 g.0, g.1)
-
-found_spelled : (bytes : List ℕ) (p : PackageView) → record_of bytes ≡ Ok p → bytes ≡ spelling p
-found_spelled bytes p e =
-    let j = judged_ok bytes (signed_at bytes) p e in
-    let t = signed_taken bytes j.0 j.1 in
-    t.spelled ∙ ap (λ d. signed_with d j.0.read) (j.2 ∙ ap (λ b. encode_lower (sha256 b)) t.before) ∙ ap spelling j.3
-
-pub is_spelled : (bytes : List ℕ) (r : Result PackageView RecordError) → IfOk r (λ p. record_of bytes ≡ Ok p) → IfOk r (λ p. bytes ≡ spelling p)
-is_spelled bytes (Ok p) h = found_spelled bytes p h
-is_spelled bytes (Err e) h = tt
+pub answer_spelled : (bytes : List ℕ) (version : Version) (p : PackageView) → IsPackage p → bytes ≡ signed version p → IsSpelled bytes (answer version p)
+answer_spelled bytes One p facts e = record { told = p; form = facts; name_is = refl; spelled = e }
+answer_spelled bytes Two p facts e = e
 
 -- what states another digest than that of its lines
-pub has_other_digest : (bytes found : List ℕ) (s : Signed) → signed_at bytes ≡ Ok s → IsPackage s.read → found ≡ digest_of s.size bytes → s.stated ≢ found → HasOtherDigest bytes s.stated found
+pub has_other_digest : (bytes found : List ℕ) (s : Signed) → signed_at bytes ≡ Ok s → IsPackage s.read → found ≡ digest_before s.size bytes → s.stated ≢ found → HasOtherDigest bytes s.stated found
 has_other_digest bytes found s e facts is differs =
     let t = signed_taken bytes s e in
-    record { read = s.read; facts = facts; form = t.form; spelled = t.spelled; digest = is ∙ ap (λ b. encode_lower (sha256 b)) t.before; differs = differs }
+    record { version = s.version; read = s.read; facts = facts; form = t.form; spelled = t.spelled; digest = is ∙ ap (λ b. hex (digest_of b)) t.before; differs = differs }

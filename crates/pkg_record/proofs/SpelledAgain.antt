@@ -1,12 +1,12 @@
 -- What is spelled as a package's record is read, whatever follows the lines before its digest.
-use Rattle.std.proofs.Common.{◌≡◌, ℕ, ◌-◌, ◌*◌, ◌^◌, ◌<◌, suc, Bool, true, false, List, [], ◌∷◌, ◌++◌, length, get_or, map, codes, arith, refl, ap, ap₂, sym, subst, ◌∙◌, append_assoc, append-nil}
+use Rattle.std.proofs.Common.{◌≡◌, ℕ, ◌-◌, ◌^◌, ◌<◌, suc, Bool, true, false, List, [], ◌∷◌, ◌++◌, length, get_or, map, codes, arith, refl, ap, ap₂, sym, subst, ◌∙◌, append_assoc, append-nil}
 use Rattle.std.specs.Prelude.{◌&&◌, ◌==◌, ◌≢◌, not, nat_le, Option, Some, None, Result, Ok, Err, IfOk, IfErr, MatchResult, cond, bytes_eq, IsTrue, IfSome}
 use Rattle.std.specs.Option.{option_and_then}
 use Rattle.std.specs.List.{flat_map, list_all, AllByRecursion}
 use Rattle.std.specs.Fmt.{decimal}
 use Rattle.std.specs.Ordering.{is_lt}
 use Rattle.std.proofs.lemmas.Bool.{and_parts, and_from}
-use Rattle.std.proofs.lemmas.List.{length-append, length-map, nil_from_length, map-append, get_or_append_left}
+use Rattle.std.proofs.lemmas.List.{length-append, length-map, map-append, get_or_append_left}
 use Rattle.std.proofs.lemmas.List.Concat.{flat_map-cons}
 use Rattle.std.proofs.lemmas.List.Folds.{list_all-append}
 use Rattle.std.proofs.lemmas.Map.Keys.{Less-from_sorted}
@@ -14,37 +14,40 @@ use Rattle.std.proofs.lemmas.Option.{slice_get-get_or}
 use Rattle.std.proofs.lemmas.Slice.Eq.{bytes_eq-Decides}
 use Rattle.std.proofs.Math.ListN.{get_or-map}
 use Rattle.std.proofs.Math.Seq.{take-append_seam, get_or-append_seam}
-use Rattle.sha2.specs.Sha256.{sha256}
-use Rattle.sha2.proofs.Facts256.{length-sha256}
-use Rattle.hex.specs.Hex.{encode_lower, lower_digits}
-use Rattle.hex.proofs.HexLemmas.{length-encode_with}
 use Rattle.bulk_base.specs.declared.file.FileItem.{FileItem}
 use Rattle.bulk_base.specs.declared.file.Switch.{Switch}
 use Rattle.bulk_base.specs.Names.{is_flavor, is_option_name, IsNode, IsPackageName}
 use Rattle.bulk_base.specs.Text.{is_text, is_text_byte, has_text_bytes}
 use Rattle.bulk_base.specs.Path.{is_path, is_below}
 use Rattle.bulk_model.specs.declared.depend.Depend.{Depend}
-use Rattle.bulk_model.specs.Facts.{IsOptionList, IsDependList, IsFileList, paths_of, comes_before, each_before}
-use Rattle.bulk_model.specs.Views.{PackageView}
-use Rattle.bulk_model.specs.Spelling.{line, flavor_word, switch_word, kind_word, option_line, depend_line, file_piece, unsigned, signed_with, spelling}
+use Rattle.bulk_model.specs.declared.depend.Recorded.{Recorded}
+use Rattle.bulk_model.specs.declared.digest.Digest.{Digest}
+use Rattle.bulk_model.specs.declared.version.Version.{Version}
+use Rattle.bulk_model.specs.declared.version.Version.TheVariants.{One, Two}
+use Rattle.bulk_model.specs.Digests.{digest_of, hex, is_digest}
+use Rattle.bulk_model.specs.Facts.{IsOptionList, IsDependList, IsRecordedList, IsFileList, paths_of, comes_before, each_before}
+use Rattle.bulk_model.specs.Lines.{line, flavor_word, name_lines, switch_word, kind_word, depend_words, option_line, option_lines, file_piece, file_pieces}
+use Rattle.bulk_model.specs.Spelling.{version_words, recipe_line, mark_word, recorded_line, recorded_lines, unsigned, signed_with, signed as signed_record}
+use Rattle.bulk_model.specs.Views.{PackageView, need_of}
 use Rattle.outside.specs.Contents.{IsAscending, has_no_folder}
 use Rattle.pkg_record.specs.declared.fault.Fault.{Fault}
 use Rattle.pkg_record.specs.declared.fault.Fault.TheVariants.{Misfit}
+use Rattle.pkg_record.specs.declared.answer.Record.{Record}
 use Rattle.pkg_record.specs.declared.fault.RecordError.{RecordError}
 use Rattle.pkg_record.specs.declared.fault.RecordError.TheVariants as records
 use Rattle.port_name.specs.Forms.{is_origin}
 use Rattle.port_name.specs.PackageForm.{is_package_name}
-use Rattle.pkg_record.specs.Forms.{is_digest, is_hex_byte}
-use Rattle.pkg_record.specs.Said.{passing, word_behind, flavor_said, count_behind, option_said, depend_said, file_said}
-use Rattle.pkg_record.specs.Reading.{◌>>=◌, said_at, piece_at, last_of, option_follows, next_option, option_at, depend_follows, next_depend, depend_at, path_follows, is_record_path, is_next_path, next_file, file_at, items_at, listed_at, unsigned_at, signed, signed_at, digest_of, judged, record_of}
+use Rattle.pkg_record.specs.Said.{word_behind, version_said, flavor_said, recipe_said, count_behind, option_said, depend_said, file_said}
+use Rattle.pkg_record.specs.Reading.{◌>>=◌, said_at, piece_at, last_of, option_follows, next_option, option_at, depend_follows, next_depend, depend_at, path_follows, is_record_path, is_next_path, next_file, file_at, items_at, listed_at, recipe_at, package_told, unsigned_at, signed, signed_at, digest_before, answer, judged, record_of}
 use Rattle.pkg_record.specs.Laws.{HasRecord}
 use Rattle.pkg_record.proofs.Names.{list_all-weaken, option_name, node_plain, package_name_plain, origin_plain, flavor_name, digest_text}
 use Rattle.pkg_record.proofs.NamesAgain.{differs, Lacks, lacks_joined, origin_again, node_again, name_again}
-use Rattle.pkg_record.proofs.SaidAgain.{said_again, word_again, flavor_again, count_again, plain_line, decimal_plain, option_again, kind_line, depend_again, file_again, piece_again}
-use Rattle.pkg_record.proofs.Taken.{ok_is}
+use Rattle.pkg_record.proofs.SaidAgain.{said_again, word_again, version_again, version_line, flavor_again, recipe_again, count_again, plain_line, decimal_plain, option_again, kind_line, Tells, depend_again, file_again, piece_again}
 use Rattle.pkg_record.proofs.Lists.{order}
-use Rattle.pkg_record.proofs.HexDigits.{hex_bytes, sha256_bytes}
-use Rattle.pkg_record.proofs.Spelled.{file_made, packed, from_files, from_depends, from_options, from_flavor, from_origin, from_name, is_version_line, up_to_version, up_to_name, up_to_origin, up_to_flavor, up_to_options, up_to_depends}
+use Rattle.pkg_record.proofs.DigestTexts.{digest_text as digest_form_of}
+use Rattle.pkg_record.proofs.Hashes.{digest_form}
+use Rattle.pkg_record.proofs.Without.{told_as, IsTold, told_unsigned, told_record, is_told, told_answer}
+use Rattle.pkg_record.proofs.Spelled.{file_made, from_files, from_depends, from_options, from_recipe, from_flavor, from_origin, from_name, up_to_version, up_to_flavor, up_to_recipe, up_to_options, up_to_depends}
 
 -- ---- one item among others
 
@@ -89,17 +92,34 @@ option_item_again before x more rest form =
     let lacks : Lacks 10 text = lacks_joined 10 (codes "option " ++ x.name ++ codes " ") (switch_word x.on) (lacks_joined 10 (codes "option " ++ x.name) (codes " ") (lacks_joined 10 (codes "option ") x.name refl (plain_line x.name (option_name x.name name).1)) refl) (switch_line x.on) in
     said_again (λ t. option_and_then (next_option before) (option_said t)) text x rest lacks (ap (option_and_then (next_option before)) (option_again x name) ∙ ap (λ b. cond b (Some x) None) follows)
 
-depend_item_again : (before : List Depend) (x : Depend) (more : List Depend) (rest : List ℕ) → IsDependList (before ++ x ∷ more) → depend_at before (depend_line x ++ rest) ≡ Ok (x, rest)
+-- a list of dependencies of which a version tells all that it tells
+pub record AreDepends (version : Version) (depends : List Recorded) : Type 0 where
+  pub facts : IsRecordedList depends
+  pub digests : AllByRecursion (λ d. Tells version d.digest) depends
+
+mark_line : (version : Version) (digest : Digest) → Tells version digest → Lacks 10 (mark_word version digest)
+mark_line One digest told = refl
+mark_line Two digest told = lacks_joined 10 (codes " ") (hex digest) refl (plain_line (hex digest) (digest_text (hex digest) (digest_form_of digest told)))
+
+depend_item_again : (version : Version) (before : List Recorded) (x : Recorded) (more : List Recorded) (rest : List ℕ) → AreDepends version (before ++ x ∷ more) → depend_at version before (recorded_line version x ++ rest) ≡ Ok (x, rest)
 unfolding depend_at
-depend_item_again before x more rest form =
-    let node = node_again x.node (all_at (λ d. IsNode d.node) before x more form.nodes) in
-    let name = name_again x.name (all_at (λ d. IsPackageName d.name) before x more form.names) in
-    let follows : depend_follows (last_of before) x ≡ true = follows_by before x (λ l. depend_follows l x) refl (each_at before x more form.order) in
+depend_item_again version before x more rest form =
+    let needs : IsDependList (map need_of before ++ need_of x ∷ map need_of more) = subst IsDependList (map-append need_of before (x ∷ more)) form.facts in
+    let node = node_again x.node (all_at (λ d. IsNode d.node) (map need_of before) (need_of x) (map need_of more) needs.nodes) in
+    let name = name_again x.name (all_at (λ d. IsPackageName d.name) (map need_of before) (need_of x) (map need_of more) needs.names) in
+    let told : Tells version x.digest = all_at (λ d. Tells version d.digest) before x more form.digests in
+    let behind_last : 0 < length before → comes_before (need_of (get_or before (length before - 1) x)) (need_of x) ≡ true = λ some.
+    ap (λ y. comes_before y (need_of x)) (sym (get_or-map need_of before (length before - 1) x))
+    ∙ ap (λ n. comes_before (get_or (map need_of before) (n - 1) (need_of x)) (need_of x)) (sym (length-map before need_of))
+    ∙ each_at (map need_of before) (need_of x) (map need_of more) needs.order (omega (arith, some, length-map before need_of)) in
+    let follows : depend_follows (last_of before) x ≡ true = follows_by before x (λ l. depend_follows l x) refl behind_last in
     let head = codes "depend " ++ kind_word x.kind ++ codes " " in
+    let mark = mark_word version x.digest in
     let lacks_head : Lacks 10 head = lacks_joined 10 (codes "depend " ++ kind_word x.kind) (codes " ") (lacks_joined 10 (codes "depend ") (kind_word x.kind) refl (kind_line x.kind)) refl in
     let lacks_node : Lacks 10 (head ++ x.node) = lacks_joined 10 head x.node lacks_head (plain_line x.node (node_plain x.node node)) in
-    let lacks : Lacks 10 (head ++ x.node ++ codes " " ++ x.name) = lacks_joined 10 (head ++ x.node ++ codes " ") x.name (lacks_joined 10 (head ++ x.node) (codes " ") lacks_node refl) (plain_line x.name (package_name_plain x.name name)) in
-    said_again (λ t. option_and_then (next_depend before) (depend_said t)) (head ++ x.node ++ codes " " ++ x.name) x rest lacks (ap (option_and_then (next_depend before)) (depend_again x node name) ∙ ap (λ b. cond b (Some x) None) follows)
+    let lacks_name : Lacks 10 (depend_words x.kind x.node x.name) = lacks_joined 10 (head ++ x.node ++ codes " ") x.name (lacks_joined 10 (head ++ x.node) (codes " ") lacks_node refl) (plain_line x.name (package_name_plain x.name name)) in
+    let lacks : Lacks 10 (depend_words x.kind x.node x.name ++ mark) = lacks_joined 10 (depend_words x.kind x.node x.name) mark lacks_name (mark_line version x.digest told) in
+    said_again (λ t. option_and_then (next_depend before) (depend_said version t)) (depend_words x.kind x.node x.name ++ mark) x rest lacks (ap (option_and_then (next_depend before)) (depend_again version x node name told) ∙ ap (λ b. cond b (Some x) None) follows)
 
 -- ---- files
 
@@ -186,138 +206,142 @@ flavor_line : (flavor : Option (List ℕ)) → IfSome flavor (λ f. IsTrue (is_f
 flavor_line None h = refl
 flavor_line (Some f) h = plain_line f (flavor_name f h).1
 
-abbrev list_text : {X : Type 0} → List ℕ → (X → List ℕ) → List X → List ℕ
-list_text heading spell all = line (heading ++ decimal (length all)) ++ flat_map spell all
+recipe_line_again : (version : Version) (recipe : Digest) (rest : List ℕ) → Tells version recipe → recipe_at version (recipe_line version recipe ++ rest) ≡ Ok (recipe, rest)
+unfolding recipe_at
+recipe_line_again One recipe rest told = ap (λ d. Ok (d, rest)) (sym told)
+recipe_line_again Two recipe rest told =
+    said_again recipe_said (codes "recipe " ++ hex recipe) recipe rest
+    (lacks_joined 10 (codes "recipe ") (hex recipe) refl (plain_line (hex recipe) (digest_text (hex recipe) (digest_form_of recipe told)))) (recipe_again recipe told)
 
-abbrev after_depends : PackageView → List ℕ → List ℕ
-after_depends p rest = list_text (codes "files ") file_piece p.files ++ rest
+module _ (version : Version) (p : PackageView) (rest : List ℕ) where
+  abbrev after_depends : List ℕ
+  after_depends = file_pieces (codes "files ") p.files ++ rest
 
-abbrev after_options : PackageView → List ℕ → List ℕ
-after_options p rest = list_text (codes "depends ") depend_line p.depends ++ after_depends p rest
+  abbrev after_options : List ℕ
+  after_options = recorded_lines version p.depends ++ after_depends
 
-abbrev after_flavor : PackageView → List ℕ → List ℕ
-after_flavor p rest = list_text (codes "options ") option_line p.options ++ after_options p rest
+  abbrev after_recipe : List ℕ
+  after_recipe = option_lines p.options ++ after_options
 
-abbrev after_origin : PackageView → List ℕ → List ℕ
-after_origin p rest = line (codes "flavor " ++ flavor_word p.flavor) ++ after_flavor p rest
+  abbrev after_flavor : List ℕ
+  after_flavor = recipe_line version p.recipe ++ after_recipe
 
-abbrev after_name : PackageView → List ℕ → List ℕ
-after_name p rest = line (codes "origin " ++ p.origin) ++ after_origin p rest
+  abbrev after_origin : List ℕ
+  after_origin = line (codes "flavor " ++ flavor_word p.flavor) ++ after_flavor
 
-abbrev after_version : PackageView → List ℕ → List ℕ
-after_version p rest = line (codes "name " ++ p.name) ++ after_name p rest
+  abbrev after_name : List ℕ
+  after_name = line (codes "origin " ++ p.origin) ++ after_origin
 
-grouped : (x l f t : List ℕ) → (x ++ l ++ f) ++ t ≡ x ++ ((l ++ f) ++ t)
-grouped x l f t = append_assoc (x ++ l) f t ∙ append_assoc x l (f ++ t) ∙ ap (λ r. x ++ r) (sym (append_assoc l f t))
+  abbrev after_version : List ℕ
+  after_version = line (codes "name " ++ p.name) ++ after_name
 
-regrouped : (p : PackageView) (rest : List ℕ) → unsigned p ++ rest ≡ line (codes "poudriere-package 1") ++ after_version p rest
-regrouped p rest =
-    grouped (up_to_depends p.name p.origin p.flavor p.options p.depends) (line (codes "files " ++ decimal (length p.files))) (flat_map file_piece p.files) rest
-    ∙ grouped (up_to_options p.name p.origin p.flavor p.options) (line (codes "depends " ++ decimal (length p.depends))) (flat_map depend_line p.depends) (after_depends p rest)
-    ∙ grouped (up_to_flavor p.name p.origin p.flavor) (line (codes "options " ++ decimal (length p.options))) (flat_map option_line p.options) (after_options p rest)
-    ∙ append_assoc (up_to_origin p.name p.origin) (line (codes "flavor " ++ flavor_word p.flavor)) (after_flavor p rest)
-    ∙ append_assoc (up_to_name p.name) (line (codes "origin " ++ p.origin)) (after_origin p rest)
-    ∙ append_assoc up_to_version (line (codes "name " ++ p.name)) (after_name p rest)
+  regrouped : unsigned version p ++ rest ≡ line (version_words version) ++ after_version
+  regrouped =
+      append_assoc (up_to_depends version p.name p.origin p.flavor p.recipe p.options p.depends) (file_pieces (codes "files ") p.files) rest
+      ∙ append_assoc (up_to_options version p.name p.origin p.flavor p.recipe p.options) (recorded_lines version p.depends) after_depends
+      ∙ append_assoc (up_to_recipe version p.name p.origin p.flavor p.recipe) (option_lines p.options) after_options
+      ∙ append_assoc (up_to_flavor version p.name p.origin p.flavor) (recipe_line version p.recipe) after_recipe
+      ∙ append_assoc (up_to_version version) (name_lines p.name p.origin p.flavor) after_flavor
+      ∙ ap (λ r. up_to_version version ++ r)
+      (append_assoc (line (codes "name " ++ p.name) ++ line (codes "origin " ++ p.origin)) (line (codes "flavor " ++ flavor_word p.flavor)) after_flavor
+      ∙ append_assoc (line (codes "name " ++ p.name)) (line (codes "origin " ++ p.origin)) after_origin)
 
-files_again : (p : PackageView) (rest : List ℕ) → HasRecord p → from_files p.name p.origin p.flavor p.options p.depends (after_depends p rest) ≡ Ok (p, rest)
-files_again p rest h =
-    let form : AreFiles p.files = record { facts = h.facts.files; paths = h.paths; sizes = h.sizes } in
-    ap (λ r. r >>= λ files. Ok (packed p.name p.origin p.flavor p.options p.depends files.0, files.1)) (listed_again (codes "files ") file_at file_piece AreFiles file_item_again refl p.files rest form h.files)
+  module _ (h : HasRecord version p) (told : IsTold version p) where
+    files_again : from_files version p.name p.origin p.flavor p.recipe p.options p.depends after_depends ≡ Ok ((version, p), rest)
+    files_again =
+        let form : AreFiles p.files = record { facts = h.facts.files; paths = h.paths; sizes = h.sizes } in
+        ap (λ r. r >>= λ files. Ok ((version, package_told p.name p.origin p.flavor p.recipe p.options p.depends files.0), files.1)) (listed_again (codes "files ") file_at file_piece AreFiles file_item_again refl p.files rest form h.files)
 
-depends_again : (p : PackageView) (rest : List ℕ) → HasRecord p → from_depends p.name p.origin p.flavor p.options (after_options p rest) ≡ Ok (p, rest)
-depends_again p rest h =
-    ap (λ r. r >>= λ depends. from_files p.name p.origin p.flavor p.options depends.0 depends.1) (listed_again (codes "depends ") depend_at depend_line IsDependList depend_item_again refl p.depends (after_depends p rest) h.facts.depends h.depends)
-    ∙ files_again p rest h
+    depends_again : from_depends version p.name p.origin p.flavor p.recipe p.options after_options ≡ Ok ((version, p), rest)
+    depends_again =
+        let form : AreDepends version p.depends = record { facts = h.facts.depends; digests = told.1 } in
+        ap (λ r. r >>= λ depends. from_files version p.name p.origin p.flavor p.recipe p.options depends.0 depends.1)
+        (listed_again (codes "depends ") (depend_at version) (recorded_line version) (AreDepends version) (depend_item_again version) refl p.depends after_depends form h.depends)
+        ∙ files_again
 
-options_again : (p : PackageView) (rest : List ℕ) → HasRecord p → from_options p.name p.origin p.flavor (after_flavor p rest) ≡ Ok (p, rest)
-options_again p rest h =
-    ap (λ r. r >>= λ options. from_depends p.name p.origin p.flavor options.0 options.1) (listed_again (codes "options ") option_at option_line IsOptionList option_item_again refl p.options (after_options p rest) h.facts.options h.options)
-    ∙ depends_again p rest h
+    options_again : from_options version p.name p.origin p.flavor p.recipe after_recipe ≡ Ok ((version, p), rest)
+    options_again =
+        ap (λ r. r >>= λ options. from_depends version p.name p.origin p.flavor p.recipe options.0 options.1) (listed_again (codes "options ") option_at option_line IsOptionList option_item_again refl p.options after_options h.facts.options h.options)
+        ∙ depends_again
 
-from_flavor_again : (p : PackageView) (rest : List ℕ) → HasRecord p → from_flavor p.name p.origin (after_origin p rest) ≡ Ok (p, rest)
-from_flavor_again p rest h =
-    ap (λ r. r >>= λ flavor. from_options p.name p.origin flavor.0 flavor.1)
-    (said_again flavor_said (codes "flavor " ++ flavor_word p.flavor) p.flavor (after_flavor p rest) (lacks_joined 10 (codes "flavor ") (flavor_word p.flavor) refl (flavor_line p.flavor h.facts.flavor)) (flavor_again p.flavor h.facts.flavor))
-    ∙ options_again p rest h
+    from_recipe_again : from_recipe version p.name p.origin p.flavor after_flavor ≡ Ok ((version, p), rest)
+    from_recipe_again =
+        ap (λ r. r >>= λ recipe. from_options version p.name p.origin p.flavor recipe.0 recipe.1) (recipe_line_again version p.recipe after_recipe told.0) ∙ options_again
 
-from_origin_again : (p : PackageView) (rest : List ℕ) → HasRecord p → from_origin p.name (after_name p rest) ≡ Ok (p, rest)
-from_origin_again p rest h =
-    let form = origin_again p.origin h.facts.origin in
-    ap (λ r. r >>= λ origin. from_flavor p.name origin.0 origin.1) (word_line_again (codes "origin ") is_origin p.origin (after_origin p rest) refl (plain_line p.origin (origin_plain p.origin form)) form)
-    ∙ from_flavor_again p rest h
+    from_flavor_again : from_flavor version p.name p.origin after_origin ≡ Ok ((version, p), rest)
+    from_flavor_again =
+        ap (λ r. r >>= λ flavor. from_recipe version p.name p.origin flavor.0 flavor.1)
+        (said_again flavor_said (codes "flavor " ++ flavor_word p.flavor) p.flavor after_flavor (lacks_joined 10 (codes "flavor ") (flavor_word p.flavor) refl (flavor_line p.flavor h.facts.flavor)) (flavor_again p.flavor h.facts.flavor))
+        ∙ from_recipe_again
 
-from_name_again : (p : PackageView) (rest : List ℕ) → HasRecord p → from_name (after_version p rest) ≡ Ok (p, rest)
-from_name_again p rest h =
-    let form = name_again p.name h.facts.name in
-    ap (λ r. r >>= λ name. from_origin name.0 name.1) (word_line_again (codes "name ") is_package_name p.name (after_name p rest) refl (plain_line p.name (package_name_plain p.name form)) form)
-    ∙ from_origin_again p rest h
+    from_origin_again : from_origin version p.name after_name ≡ Ok ((version, p), rest)
+    from_origin_again =
+        let form = origin_again p.origin h.facts.origin in
+        ap (λ r. r >>= λ origin. from_flavor version p.name origin.0 origin.1) (word_line_again (codes "origin ") is_origin p.origin after_origin refl (plain_line p.origin (origin_plain p.origin form)) form)
+        ∙ from_flavor_again
 
-pub unsigned_again : (p : PackageView) (rest : List ℕ) → HasRecord p → unsigned_at (unsigned p ++ rest) ≡ Ok (p, rest)
-unfolding unsigned_at
-unsigned_again p rest h =
-    ap unsigned_at (regrouped p rest)
-    ∙ ap (λ r. r >>= λ version. from_name version.1) (said_again (passing is_version_line) (codes "poudriere-package 1") (codes "poudriere-package 1") (after_version p rest) refl refl)
-    ∙ from_name_again p rest h
+    from_name_again : from_name version after_version ≡ Ok ((version, p), rest)
+    from_name_again =
+        let form = name_again p.name h.facts.name in
+        ap (λ r. r >>= λ name. from_origin version name.0 name.1) (word_line_again (codes "name ") is_package_name p.name after_name refl (plain_line p.name (package_name_plain p.name form)) form)
+        ∙ from_origin_again
+
+    told_again : unsigned_at (unsigned version p ++ rest) ≡ Ok ((version, p), rest)
+    unfolding unsigned_at
+    told_again =
+        ap unsigned_at regrouped
+        ∙ ap (λ r. r >>= λ version. from_name version.0 version.1) (said_again version_said (version_words version) version after_version (version_line version) (version_again version))
+        ∙ from_name_again
+
+pub unsigned_again : (version : Version) (p : PackageView) (rest : List ℕ) → HasRecord version p → unsigned_at (unsigned version p ++ rest) ≡ Ok ((version, told_as version p), rest)
+unsigned_again version p rest h =
+    ap (λ u. unsigned_at (u ++ rest)) (sym (told_unsigned version p)) ∙ told_again version (told_as version p) rest (told_record version p h) (is_told version p h)
 
 -- ---- the whole
-
-abbrev pair : PackageView → List ℕ → Result (PackageView × List ℕ) Fault
-pair p rest = Ok (p, rest)
-
-pair_is : (p q : PackageView) (a b : List ℕ) → pair p a ≡ pair q b → p ≡ q
-pair_is p q a b e = ap (λ (x : PackageView × List ℕ). x.0) (ok_is (p, a) (q, b) e)
-
-pub one_record : (p q : PackageView) (more : List ℕ) → HasRecord p → HasRecord q → spelling q ≡ spelling p ++ more → (p ≡ q) × (more ≡ [])
-one_record p q more h k e =
-    let last_p = line (codes "sha256 " ++ encode_lower (sha256 (unsigned p))) in
-    let last_q = line (codes "sha256 " ++ encode_lower (sha256 (unsigned q))) in
-    let same : p ≡ q = pair_is p q (last_p ++ more) last_q (sym (unsigned_again p (last_p ++ more) h) ∙ ap unsigned_at (sym (append_assoc (unsigned p) last_p more) ∙ sym e) ∙ unsigned_again q last_q k) in
-    (same, nil_from_length more (omega (arith, ap length (ap spelling same ∙ e), length-append (spelling p) more)))
-
-pub digest_form : (bytes : List ℕ) → is_digest (encode_lower (sha256 bytes)) ≡ true
-digest_form bytes = sized (encode_lower (sha256 bytes)) (length-encode_with lower_digits (sha256 bytes) ∙ ap (λ n. 2 * n) (length-sha256 bytes)) (hex_bytes (sha256 bytes) (sha256_bytes bytes))
-  where
-    sized : (text : List ℕ) → length text ≡ 64 → list_all is_hex_byte text ≡ true → is_digest text ≡ true
-    sized text size h = and_from _ _ (and_from _ _ (ap (nat_le 64) size) (ap (λ n. nat_le n 64) size)) h
 
 pub last_line_again : (stated : List ℕ) → is_digest stated ≡ true → said_at (word_behind (codes "sha256 ") is_digest) (line (codes "sha256 " ++ stated)) ≡ Ok (stated, [])
 last_line_again stated d =
     let last = line (codes "sha256 " ++ stated) in
     ap (said_at (word_behind (codes "sha256 ") is_digest)) (sym (append-nil last)) ∙ word_line_again (codes "sha256 ") is_digest stated [] refl (plain_line stated (digest_text stated d)) d
 
-pub signed_again : (p : PackageView) (stated : List ℕ) → HasRecord p → is_digest stated ≡ true → signed_at (signed_with stated p) ≡ Ok (signed p stated (length (unsigned p)))
+pub signed_again : (version : Version) (p : PackageView) (stated : List ℕ) → HasRecord version p → is_digest stated ≡ true
+    → signed_at (signed_with version stated p) ≡ Ok (signed (version, told_as version p) stated (length (unsigned version p)))
 unfolding signed_at
-signed_again p stated h d =
+signed_again version p stated h d =
     let last = line (codes "sha256 " ++ stated) in
-    let whole = unsigned p ++ last in
+    let lines = unsigned version p in
+    let whole = lines ++ last in
     let ended : said_at (word_behind (codes "sha256 ") is_digest) last ≡ Ok (stated, []) = last_line_again stated d in
-    ap (λ r. r >>= λ x. said_at (word_behind (codes "sha256 ") is_digest) x.1 >>= λ digest. cond (length digest.1 == 0) (Ok (signed x.0 digest.0 (length whole - length x.1))) (Err (Misfit (length digest.1)))) (unsigned_again p last h)
-    ∙ ap (λ r. r >>= λ digest. cond (length digest.1 == 0) (Ok (signed p digest.0 (length whole - length last))) (Err (Misfit (length digest.1)))) ended
-    ∙ ap (λ n. Ok (signed p stated n)) (omega (arith, length-append (unsigned p) last))
+    ap (λ r. r >>= λ x. said_at (word_behind (codes "sha256 ") is_digest) x.1 >>= λ digest. cond (length digest.1 == 0) (Ok (signed x.0 digest.0 (length whole - length x.1))) (Err (Misfit (length digest.1)))) (unsigned_again version p last h)
+    ∙ ap (λ r. r >>= λ digest. cond (length digest.1 == 0) (Ok (signed (version, told_as version p) digest.0 (length whole - length last))) (Err (Misfit (length digest.1)))) ended
+    ∙ ap (λ n. Ok (signed (version, told_as version p) stated n)) (omega (arith, length-append lines last))
 
-record_again : (p : PackageView) → HasRecord p → record_of (spelling p) ≡ Ok p
+pub record_again : (version : Version) (p : PackageView) → HasRecord version p → record_of (signed_record version p) ≡ Ok (answer version p)
 unfolding judged
-record_again p h =
-    let stated = encode_lower (sha256 (unsigned p)) in
+record_again version p h =
+    let lines = unsigned version p in
+    let stated = hex (digest_of lines) in
     let last = line (codes "sha256 " ++ stated) in
-    let found : digest_of (length (unsigned p)) (spelling p) ≡ stated = ap (λ b. encode_lower (sha256 b)) (take-append_seam (unsigned p) last) in
-    ap (judged (spelling p)) (signed_again p stated h (digest_form (unsigned p)))
-    ∙ ap (λ d. cond (bytes_eq stated d) (Ok p) (Err (records.BadDigest stated d))) found
-    ∙ ap (λ b. cond b (Ok p) (Err (records.BadDigest stated stated))) ((bytes_eq-Decides stated stated).1 refl)
+    let whole = signed_record version p in
+    let found : digest_before (length lines) whole ≡ stated = ap (λ b. hex (digest_of b)) (take-append_seam lines last) in
+    ap (judged whole) (signed_again version p stated h (digest_form lines))
+    ∙ ap (λ d. cond (bytes_eq stated d) (Ok (answer version (told_as version p))) (Err (records.BadDigest stated d))) found
+    ∙ ap (λ b. cond b (Ok (answer version (told_as version p))) (Err (records.BadDigest stated stated))) ((bytes_eq-Decides stated stated).1 refl)
+    ∙ ap (λ x. Ok x) (told_answer version p)
 
-abbrev read_ok : PackageView → Result PackageView RecordError
-read_ok p = Ok p
+abbrev read_ok : Record → Result Record RecordError
+read_ok x = Ok x
 
-ok_same : (p q : PackageView) → read_ok p ≡ read_ok q → p ≡ q
-ok_same p q e = cc
+ok_same : (x y : Record) → read_ok x ≡ read_ok y → x ≡ y
+ok_same x y e = cc
 
-only_memory : (p : PackageView) (e : RecordError) → (e ≢ records.NoMemory → read_ok p ≡ Err e) → e ≡ records.NoMemory
-only_memory p records.Short h = let no = h (λ q. absurd cc) in cc
-only_memory p (records.BadField place) h = let no = h (λ q. absurd cc) in cc
-only_memory p (records.BadDigest stated found) h = let no = h (λ q. absurd cc) in cc
-only_memory p records.NoMemory h = refl
+only_memory : (x : Record) (e : RecordError) → (e ≢ records.NoMemory → read_ok x ≡ Err e) → e ≡ records.NoMemory
+only_memory x records.Short h = let no = h (λ q. absurd cc) in cc
+only_memory x (records.BadField place) h = let no = h (λ q. absurd cc) in cc
+only_memory x (records.BadDigest stated found) h = let no = h (λ q. absurd cc) in cc
+only_memory x records.NoMemory h = refl
 
-pub is_read : (bytes : List ℕ) (r : Result PackageView RecordError) → IfOk r (λ p. record_of bytes ≡ Ok p) → IfErr r (λ e. e ≢ records.NoMemory → record_of bytes ≡ Err e)
-    → (p : PackageView) → HasRecord p → bytes ≡ spelling p → MatchResult r (λ x. x ≡ p) (λ e. e ≡ records.NoMemory)
-is_read bytes (Ok x) ok err p h e = ok_same x p (sym ok ∙ ap record_of e ∙ record_again p h)
-is_read bytes (Err x) ok err p h e = only_memory p x (λ n. sym (ap record_of e ∙ record_again p h) ∙ err n)
+pub is_read : (bytes : List ℕ) (r : Result Record RecordError) → IfOk r (λ x. record_of bytes ≡ Ok x) → IfErr r (λ e. e ≢ records.NoMemory → record_of bytes ≡ Err e)
+    → (version : Version) (p : PackageView) → HasRecord version p → bytes ≡ signed_record version p → MatchResult r (λ x. x ≡ answer version p) (λ e. e ≡ records.NoMemory)
+is_read bytes (Ok x) ok err version p h e = ok_same x (answer version p) (sym ok ∙ ap record_of e ∙ record_again version p h)
+is_read bytes (Err x) ok err version p h e = only_memory (answer version p) x (λ n. sym (ap record_of e ∙ record_again version p h) ∙ err n)

@@ -1,5 +1,5 @@
 -- What the text of a line says is what it spells.
-use Rattle.std.proofs.Common.{◌≡◌, ℕ, ◌+◌, ◌<◌, ◌^◌, Bool, true, false, List, [], ◌∷◌, ◌++◌, length, get_or, take, drop, codes, ltb, arith, refl, ap, ap₂, sym, ◌∙◌, inl, inr, append_assoc}
+use Rattle.std.proofs.Common.{◌≡◌, ℕ, ◌+◌, ◌<◌, ◌^◌, Bool, true, false, List, [], ◌∷◌, ◌++◌, length, get_or, take, drop, codes, ltb, arith, refl, ap, ap₂, sym, ◌∙◌, inl, inr, append_assoc, append-nil}
 use Rattle.std.specs.Prelude.{◌⊎◌, ◌&&◌, ◌==◌, nat_eq, nat_le, Option, Some, None, Result, Ok, Err, cond, bytes_eq}
 use Rattle.std.specs.Option.{option_map, option_and_then}
 use Rattle.std.specs.List.{starts_with, position_or_len}
@@ -8,26 +8,32 @@ use Rattle.std.specs.Str.Parse.{digits_value}
 use Rattle.std.proofs.lemmas.Bool.{eqb-true, and_parts}
 use Rattle.std.proofs.lemmas.Bool.Decides.{nat_tests, Decides-eqb}
 use Rattle.std.proofs.lemmas.Fmt.{decimal-digits_value}
-use Rattle.std.proofs.lemmas.List.{length-drop, take-append-drop, drop_more, length-take-le}
+use Rattle.std.proofs.lemmas.List.{length-append, length-drop, take-append-drop, drop_more, length-take-le}
 use Rattle.std.proofs.lemmas.List.Sums.{split_at_first, passes_at_first}
 use Rattle.std.proofs.lemmas.Slice.Eq.{starts_is, bytes_eq-Decides}
 use Rattle.bulk_base.proofs.Digits.{own}
 use Rattle.bulk_base.specs.declared.file.Switch.{Switch}
 use Rattle.bulk_base.specs.Names.{is_flavor, is_option_name}
 use Rattle.bulk_base.specs.Path.{is_path}
-use Rattle.bulk_model.specs.declared.depend.Depend.{Depend}
+use Rattle.bulk_model.specs.declared.depend.Recorded.{Recorded}
+use Rattle.bulk_model.specs.declared.digest.Digest.{Digest}
+use Rattle.bulk_model.specs.declared.version.Version.{Version}
+use Rattle.bulk_model.specs.declared.version.Version.TheVariants.{One, Two}
+use Rattle.bulk_model.specs.Digests.{no_digest, hex}
 use Rattle.bulk_model.specs.declared.depend.DepKind.{DepKind}
 use Rattle.bulk_model.specs.declared.depend.DepKind.TheVariants.{Pkg, Fetch, Extract, Patch, Build, Lib, Run}
-use Rattle.bulk_model.specs.Spelling.{line, kind_word, flavor_word, switch_word, option_line, depend_line}
+use Rattle.bulk_model.specs.Lines.{line, kind_word, flavor_word, switch_word, option_line}
+use Rattle.bulk_model.specs.Spelling.{version_words, mark_word, recorded_line}
 use Rattle.pkg_record.specs.declared.fault.Fault.{Fault}
 use Rattle.pkg_record.specs.declared.fault.Fault.TheVariants.{Short, Misfit}
 use Rattle.bulk_base.specs.Marks.{is_mark, front, back}
 use Rattle.port_name.specs.Forms.{is_node}
 use Rattle.port_name.specs.PackageForm.{is_package_name, some_below, is_parted_at}
-use Rattle.pkg_record.specs.Said.{behind, passing, word_behind, flavor_of, flavor_said, is_numeral, count_of, count_behind, switch_of, switch, named_switch, switch_in, option_said, kind_of, depend, named_depend, depend_in, depend_said, file_in, file_said}
+use Rattle.pkg_record.specs.Said.{behind, passing, word_behind, flavor_of, flavor_said, is_numeral, count_of, count_behind, switch_of, switch, named_switch, switch_in, option_said, kind_of, version_said, digest_said, recipe_said, recorded, mark_in, noted, named_depend, depend_in, depend_said, file_in, file_said}
 use Rattle.pkg_record.specs.Reading.{◌>>=◌, line_at, fitting, said_at, piece_at}
 use Rattle.pkg_record.proofs.Names.{parted, some_below-place}
 use Rattle.pkg_record.proofs.Numerals.{digits_of}
+use Rattle.pkg_record.proofs.DigestTexts.{digest_taken, digest_filled}
 
 -- ---- steps that gave a value
 
@@ -196,24 +202,52 @@ package_name_filled text h =
     let k = some_below-place (is_parted_at text) (length text) (and_parts (nat_le (length text) 200) (some_below (is_parted_at text) (length text)) h).1 in
     omega (arith, k.1)
 
-pub depend_taken : (text : List ℕ) (found : Depend) → depend_said text ≡ Some found → line text ≡ depend_line found
-depend_taken text found e =
-    let t = then_some (behind (codes "depend ") text) depend_in found e in
+mark_taken : (version : Version) (words : List ℕ) (mark : List ℕ × Digest) → mark_in version words ≡ Some mark → words ≡ mark.0 ++ mark_word version mark.1
+mark_taken One words mark e = ap (λ (m : List ℕ × Digest). m.0) (some_is (words, no_digest) mark e) ∙ sym (append-nil mark.0)
+mark_taken Two words mark e =
+    let m = mapped_some (digest_said (back 32 words)) (λ d. (front 32 words, d)) mark e in
+    parted 32 words (digest_filled (back 32 words) m.0 m.1)
+    ∙ ap (λ w. front 32 words ++ 32 ∷ w) (digest_taken (back 32 words) m.0 m.1)
+    ∙ ap (λ (x : List ℕ × Digest). x.0 ++ mark_word Two x.1) m.2
+
+pub depend_taken : (version : Version) (text : List ℕ) (found : Recorded) → depend_said version text ≡ Some found → line text ≡ recorded_line version found
+depend_taken version text found e =
+    let t = then_some (behind (codes "depend ") text) (depend_in version) found e in
     let words = t.0 in
     let rest = back 32 words in
-    let k = then_some (kind_of (front 32 words)) (named_depend (front 32 rest) (back 32 rest)) found t.2 in
+    let node = front 32 rest in
+    let last = back 32 rest in
+    let k = then_some (kind_of (front 32 words)) (named_depend version node last) found t.2 in
     let kind : front 32 words ≡ kind_word k.0 = kind_taken (front 32 words) k.0 k.1 in
-    let g = given (is_node (front 32 rest) && is_package_name (back 32 rest)) (depend k.0 (front 32 rest) (back 32 rest)) found k.2 in
-    let filled : 0 < length (back 32 rest) = package_name_filled (back 32 rest) (and_parts (is_node (front 32 rest)) (is_package_name (back 32 rest)) g.0).1 in
-    let some_rest : 0 < length rest = omega (arith, filled, length-drop (position_or_len (is_mark 32) rest + 1) rest) in
+    let m = then_some (mark_in version last) (noted k.0 node) found k.2 in
+    let name = m.0.0 in
+    let mark = mark_word version m.0.1 in
+    let told : last ≡ name ++ mark = mark_taken version last m.0 m.1 in
+    let g = given (is_node node && is_package_name name) (recorded k.0 node name m.0.1) found m.2 in
+    let filled : 0 < length name = package_name_filled name (and_parts (is_node node) (is_package_name name) g.0).1 in
+    let some_last : 0 < length last = omega (arith, filled, ap length told, length-append name mark) in
+    let some_rest : 0 < length rest = omega (arith, some_last, length-drop (position_or_len (is_mark 32) rest + 1) rest) in
     let first : words ≡ kind_word k.0 ++ 32 ∷ rest = parted 32 words some_rest ∙ ap (λ w. w ++ 32 ∷ rest) kind in
-    let second : rest ≡ front 32 rest ++ 32 ∷ back 32 rest = parted 32 rest filled in
+    let second : rest ≡ node ++ 32 ∷ (name ++ mark) = parted 32 rest some_last ∙ ap (λ w. node ++ 32 ∷ w) told in
+    let head = codes "depend " ++ kind_word k.0 ++ codes " " in
     ap line (heading_taken (codes "depend ") text words t.1
     ∙ ap (λ w. codes "depend " ++ w) first
     ∙ spaced (codes "depend ") (kind_word k.0) rest
-    ∙ ap (λ w. codes "depend " ++ kind_word k.0 ++ codes " " ++ w) second
-    ∙ spaced (codes "depend " ++ kind_word k.0 ++ codes " ") (front 32 rest) (back 32 rest))
-    ∙ ap depend_line g.1
+    ∙ ap (λ w. head ++ w) second
+    ∙ spaced head node (name ++ mark)
+    ∙ sym (append_assoc (head ++ node ++ codes " ") name mark))
+    ∙ ap (recorded_line version) g.1
+
+pub recipe_taken : (text : List ℕ) (recipe : Digest) → recipe_said text ≡ Some recipe → text ≡ codes "recipe " ++ hex recipe
+recipe_taken text recipe e =
+    let t = then_some (behind (codes "recipe ") text) digest_said recipe e in
+    heading_taken (codes "recipe ") text t.0 t.1 ∙ ap (λ w. codes "recipe " ++ w) (digest_taken t.0 recipe t.2)
+
+pub version_taken : (text : List ℕ) (version : Version) → version_said text ≡ Some version → text ≡ version_words version
+version_taken text version e = elim (chosen (bytes_eq text (version_words One)) (Some One) _ (Some version) e) [
+  | inl c ↦ same_bytes text (version_words One) c.0 ∙ ap version_words (some_is One version c.1)
+  | inr c1 ↦ (let g = given (bytes_eq text (version_words Two)) Two version c1.1 in same_bytes text (version_words Two) g.0 ∙ ap version_words g.1)
+]
 
 pub path_filled : (path : List ℕ) → is_path path ≡ true → 0 < length path
 path_filled [] h = absurd cc

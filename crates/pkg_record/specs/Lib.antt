@@ -1,4 +1,5 @@
-pub mod Forms
 pub mod Said
 pub mod Reading
 pub mod Laws
+pub mod Hashing
+pub mod Noting

@@ -4,15 +4,19 @@ use Rattle.std.specs.Option.{option_and_then}
 use Rattle.std.specs.List.{list_all, position_or_len}
 use Rattle.std.specs.Ordering.{nat_cmp, is_lt}
 use Rattle.std.specs.Cmp.Lexicographic.{slice_cmp}
-use Rattle.sha2.specs.Sha256.{sha256}
-use Rattle.hex.specs.Hex.{encode_lower}
 use Rattle.bulk_base.specs.Text.{is_text}
 use Rattle.bulk_base.specs.Path.{is_path, is_below}
 use Rattle.bulk_base.specs.declared.file.FileItem.{FileItem}
 use Rattle.bulk_base.specs.declared.file.Switch.{Switch}
-use Rattle.bulk_model.specs.declared.depend.Depend.{Depend}
+use Rattle.bulk_model.specs.declared.depend.Recorded.{Recorded}
+use Rattle.bulk_model.specs.declared.digest.Digest.{Digest}
+use Rattle.bulk_model.specs.declared.version.Version.{Version}
+use Rattle.bulk_model.specs.declared.version.Version.TheVariants.{One, Two}
+use Rattle.bulk_model.specs.Digests.{digest_of, no_digest, hex, is_digest}
 use Rattle.bulk_model.specs.Facts.{paths_of, comes_before}
-use Rattle.bulk_model.specs.Views.{PackageView}
+use Rattle.bulk_model.specs.Views.{PackageView, need_of}
+use Rattle.pkg_record.specs.declared.answer.Record.{Record}
+use Rattle.pkg_record.specs.declared.answer.Record.TheVariants as answers
 use Rattle.pkg_record.specs.declared.fault.Fault.{Fault}
 use Rattle.pkg_record.specs.declared.fault.Fault.TheVariants.{Short, Misfit}
 use Rattle.pkg_record.specs.declared.fault.ReadError.{ReadError}
@@ -22,8 +26,7 @@ use Rattle.pkg_record.specs.declared.fault.RecordError.TheVariants as records
 use Rattle.bulk_base.specs.Marks.{is_mark, front, back}
 use Rattle.port_name.specs.Forms.{is_origin}
 use Rattle.port_name.specs.PackageForm.{is_package_name}
-use Rattle.pkg_record.specs.Forms.{is_digest}
-use Rattle.pkg_record.specs.Said.{passing, word_behind, flavor_said, count_behind, option_said, depend_said, file_said}
+use Rattle.pkg_record.specs.Said.{word_behind, version_said, flavor_said, recipe_said, count_behind, option_said, depend_said, file_said}
 
 infixl 10 ◌>>=◌
 abbrev pub ◌>>=◌ : {A B : Type 0} → Result A Fault → (A → Result B Fault) → Result B Fault
@@ -72,15 +75,15 @@ unfoldable pub option_at : List Switch → List ℕ → Result (Switch × List �
 option_at before bytes = said_at (λ text. option_and_then (next_option before) (option_said text)) bytes
 
 -- by kind, then node, behind the one before it
-abbrev pub depend_follows : Option Depend → Depend → Bool
+abbrev pub depend_follows : Option Recorded → Recorded → Bool
 depend_follows None depend = true
-depend_follows (Some last) depend = comes_before last depend
+depend_follows (Some last) depend = comes_before (need_of last) (need_of depend)
 
-abbrev pub next_depend : List Depend → Depend → Option Depend
+abbrev pub next_depend : List Recorded → Recorded → Option Recorded
 next_depend before depend = if depend_follows (last_of before) depend then Some depend else None
 
-unfoldable pub depend_at : List Depend → List ℕ → Result (Depend × List ℕ) Fault
-depend_at before bytes = said_at (λ text. option_and_then (next_depend before) (depend_said text)) bytes
+unfoldable pub depend_at : Version → List Recorded → List ℕ → Result (Recorded × List ℕ) Fault
+depend_at version before bytes = said_at (λ text. option_and_then (next_depend before) (depend_said version text)) bytes
 
 -- by path, behind the one before it, and no path before it is one of its folders
 abbrev pub path_follows : Option FileItem → List ℕ → Bool
@@ -116,40 +119,59 @@ listed_at heading item bytes = do
   items_at item count.0 [] count.1
 
 -- the options, dependencies and files, and what follows them
-abbrev pub lists_at : List ℕ → Result (List Switch × List Depend × List FileItem × List ℕ) Fault
-lists_at bytes = do
+abbrev pub lists_at : Version → List ℕ → Result (List Switch × List Recorded × List FileItem × List ℕ) Fault
+lists_at version bytes = do
   options ← listed_at (codes "options ") option_at bytes
-  depends ← listed_at (codes "depends ") depend_at options.1
+  depends ← listed_at (codes "depends ") (depend_at version) options.1
   files ← listed_at (codes "files ") file_at depends.1
   Ok (options.0, depends.0, files.0, files.1)
 
--- the package that the lines before the digest spell
-unfoldable pub unsigned_at : List ℕ → Result (PackageView × List ℕ) Fault
+-- version 1 has no line with the digest of the recipe
+unfoldable pub recipe_at : Version → List ℕ → Result (Digest × List ℕ) Fault
+recipe_at One bytes = Ok (no_digest, bytes)
+recipe_at Two bytes = said_at recipe_said bytes
+
+abbrev pub package_told : List ℕ → List ℕ → Option (List ℕ) → Digest → List Switch → List Recorded → List FileItem → PackageView
+package_told name origin flavor recipe options depends files = record {
+  name = name;
+  origin = origin;
+  flavor = flavor;
+  recipe = recipe;
+  options = options;
+  depends = depends;
+  files = files;
+}
+
+-- the version that the first line tells, and the package that the lines before the digest spell
+unfoldable pub unsigned_at : List ℕ → Result ((Version × PackageView) × List ℕ) Fault
 unsigned_at bytes = do
-  version ← said_at (passing (λ text. bytes_eq text (codes "poudriere-package 1"))) bytes
+  version ← said_at version_said bytes
   name ← said_at (word_behind (codes "name ") is_package_name) version.1
   origin ← said_at (word_behind (codes "origin ") is_origin) name.1
   flavor ← said_at flavor_said origin.1
-  options ← listed_at (codes "options ") option_at flavor.1
-  depends ← listed_at (codes "depends ") depend_at options.1
+  recipe ← recipe_at version.0 flavor.1
+  options ← listed_at (codes "options ") option_at recipe.1
+  depends ← listed_at (codes "depends ") (depend_at version.0) options.1
   files ← listed_at (codes "files ") file_at depends.1
-  Ok (record { name = name.0; origin = origin.0; flavor = flavor.0; options = options.0; depends = depends.0; files = files.0 }, files.1)
+  Ok ((version.0, package_told name.0 origin.0 flavor.0 recipe.0 options.0 depends.0 files.0), files.1)
 
--- what a record says: a package, the digest that it states, and how many bytes stand before the line that states it
+-- what a record says: its version, a package, the digest that it states, and how many bytes stand before that line
 pub record Signed : Type 0 where
+  pub version : Version
   pub read : PackageView
   pub stated : List ℕ
   pub size : ℕ
 
-abbrev pub signed : PackageView → List ℕ → ℕ → Signed
-signed read stated size = record { read = read; stated = stated; size = size }
+abbrev pub signed : Version × PackageView → List ℕ → ℕ → Signed
+signed told stated size = record { version = told.0; read = told.1; stated = stated; size = size }
 
 -- all of the bytes: nothing may stand behind the digest's line
 unfoldable pub signed_at : List ℕ → Result Signed Fault
 signed_at bytes = do
-  p ← unsigned_at bytes
-  digest ← said_at (word_behind (codes "sha256 ") is_digest) p.1
-  if length digest.1 == 0 then Ok (signed p.0 digest.0 (length bytes - length p.1)) else Err (Misfit (length digest.1))
+  read ← unsigned_at bytes
+  digest ← said_at (word_behind (codes "sha256 ") is_digest) read.1
+  if length digest.1 == 0 then Ok (signed read.0 digest.0 (length bytes - length read.1))
+      else Err (Misfit (length digest.1))
 
 -- the digest that the line states which ends the bytes
 abbrev pub last_at : List ℕ → Result (List ℕ) Fault
@@ -157,24 +179,31 @@ last_at bytes = do
   digest ← said_at (word_behind (codes "sha256 ") is_digest) bytes
   if length digest.1 == 0 then Ok digest.0 else Err (Misfit (length digest.1))
 
--- the digest of the first bytes
-abbrev pub digest_of : ℕ → List ℕ → List ℕ
-digest_of size bytes = encode_lower (sha256 (take size bytes))
+-- the text of the digest of the first bytes
+abbrev pub digest_before : ℕ → List ℕ → List ℕ
+digest_before size bytes = hex (digest_of (take size bytes))
 
 -- the error for a fault in so many bytes
 abbrev pub error_of : ℕ → Fault → RecordError
 error_of size Short = records.Short
 error_of size (Misfit left) = records.BadField (size - left)
 
+-- what is answered of a package's record: of one of version 1, the package's name alone
+abbrev pub answer : Version → PackageView → Record
+answer One p = answers.Old p.name
+answer Two p = answers.New p
+
 -- what a record gives
-unfoldable pub judged : List ℕ → Result Signed Fault → Result PackageView RecordError
+unfoldable pub judged : List ℕ → Result Signed Fault → Result Record RecordError
 judged bytes (Err fault) = Err (error_of (length bytes) fault)
-judged bytes (Ok s) = if bytes_eq s.stated (digest_of s.size bytes) then Ok s.read else Err (records.BadDigest s.stated (digest_of s.size bytes))
+judged bytes (Ok s) =
+    if bytes_eq s.stated (digest_before s.size bytes) then Ok (answer s.version s.read)
+    else Err (records.BadDigest s.stated (digest_before s.size bytes))
 
 -- the error where a reader of so many bytes gave nothing
 abbrev pub refusal : ℕ → ReadError → RecordError
 refusal size errors.Memory = records.NoMemory
 refusal size (errors.Found fault) = error_of size fault
 
-abbrev pub record_of : List ℕ → Result PackageView RecordError
+abbrev pub record_of : List ℕ → Result Record RecordError
 record_of bytes = judged bytes (signed_at bytes)

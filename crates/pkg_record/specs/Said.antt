@@ -3,12 +3,19 @@ use Rattle.std.specs.Prelude.{ℕ, Bool, true, false, not, ◌^◌, ◌&&◌, �
 use Rattle.std.specs.Option.{option_map, option_and_then}
 use Rattle.std.specs.List.{list_all, starts_with}
 use Rattle.std.specs.Char.{is_ascii_digit}
+use Rattle.std.specs.Result.{result_ok}
 use Rattle.std.specs.Str.Parse.{digits_value}
+use Rattle.hex.specs.Hex.{decode_sized}
 use Rattle.bulk_base.specs.Names.{is_flavor, is_option_name}
 use Rattle.bulk_base.specs.declared.file.Switch.{Switch}
-use Rattle.bulk_model.specs.declared.depend.Depend.{Depend}
 use Rattle.bulk_model.specs.declared.depend.DepKind.{DepKind}
 use Rattle.bulk_model.specs.declared.depend.DepKind.TheVariants.{Pkg, Fetch, Extract, Patch, Build, Lib, Run}
+use Rattle.bulk_model.specs.declared.depend.Recorded.{Recorded}
+use Rattle.bulk_model.specs.declared.digest.Digest.{Digest}
+use Rattle.bulk_model.specs.declared.version.Version.{Version}
+use Rattle.bulk_model.specs.declared.version.Version.TheVariants.{One, Two}
+use Rattle.bulk_model.specs.Digests.{is_digest, no_digest}
+use Rattle.bulk_model.specs.Spelling.{version_words}
 use Rattle.bulk_base.specs.Marks.{front, back}
 use Rattle.port_name.specs.Forms.{is_node}
 use Rattle.port_name.specs.PackageForm.{is_package_name}
@@ -23,6 +30,23 @@ passing test text = if test text then Some text else None
 -- a heading and a word in form
 abbrev pub word_behind : List ℕ → (List ℕ → Bool) → List ℕ → Option (List ℕ)
 word_behind heading test text = option_and_then (passing test) (behind heading text)
+
+-- the version that the first line tells
+abbrev pub version_said : List ℕ → Option Version
+version_said text =
+    if bytes_eq text (version_words One) then Some One
+    else if bytes_eq text (version_words Two) then Some Two
+    else None
+
+abbrev pub digest : List ℕ → Digest
+digest bytes = record { bytes = bytes }
+
+-- the digest of which this is the text
+unfoldable pub digest_said : List ℕ → Option Digest
+digest_said text = if is_digest text then option_map digest (result_ok (decode_sized text 32)) else None
+
+abbrev pub recipe_said : List ℕ → Option Digest
+recipe_said text = option_and_then digest_said (behind (codes "recipe ") text)
 
 -- `-` where there is none
 abbrev pub flavor_of : List ℕ → Option (Option (List ℕ))
@@ -69,18 +93,27 @@ kind_of word =
     else if bytes_eq word (codes "run") then Some Run
     else None
 
-abbrev pub depend : DepKind → List ℕ → List ℕ → Depend
-depend kind node name = record { kind = kind; node = node; name = name }
+abbrev pub recorded : DepKind → List ℕ → List ℕ → Digest → Recorded
+recorded kind node name digest = record { kind = kind; node = node; name = name; digest = digest }
 
-abbrev pub named_depend : List ℕ → List ℕ → DepKind → Option Depend
-named_depend node name kind = if is_node node && is_package_name name then Some (depend kind node name) else None
+-- a package's name and, in version 2 behind a space, the digest of its record
+abbrev pub mark_in : Version → List ℕ → Option (List ℕ × Digest)
+mark_in One words = Some (words, no_digest)
+mark_in Two words = option_map (λ digest. (front 32 words, digest)) (digest_said (back 32 words))
 
--- a kind, a node and a package's name, with spaces between
-abbrev pub depend_in : List ℕ → Option Depend
-depend_in words = option_and_then (named_depend (front 32 (back 32 words)) (back 32 (back 32 words))) (kind_of (front 32 words))
+abbrev pub noted : DepKind → List ℕ → List ℕ × Digest → Option Recorded
+noted kind node mark = if is_node node && is_package_name mark.0 then Some (recorded kind node mark.0 mark.1) else None
 
-abbrev pub depend_said : List ℕ → Option Depend
-depend_said text = option_and_then depend_in (behind (codes "depend ") text)
+abbrev pub named_depend : Version → List ℕ → List ℕ → DepKind → Option Recorded
+named_depend version node words kind = option_and_then (noted kind node) (mark_in version words)
+
+-- a kind, a node and what is told of its package, with spaces between
+abbrev pub depend_in : Version → List ℕ → Option Recorded
+depend_in version words =
+    option_and_then (named_depend version (front 32 (back 32 words)) (back 32 (back 32 words))) (kind_of (front 32 words))
+
+abbrev pub depend_said : Version → List ℕ → Option Recorded
+depend_said version text = option_and_then (depend_in version) (behind (codes "depend ") text)
 
 -- a length and, behind a space, a path
 abbrev pub file_in : List ℕ → Option (ℕ × List ℕ)

@@ -2,16 +2,19 @@
 ghost use Rattle.std.specs.Prelude.{◌≡◌, ◌++◌, ◌∷◌, [], not, codes, length, map, IfOk, IsTrue, Contains, ◌↔◌};
 ghost use Rattle.std.specs.List.{list_all};
 ghost use Rattle.bulk_base.specs.Path.{is_below};
-ghost use Rattle.bulk_model.specs.Facts.{IsOptionList, IsDependList, IsFileList, paths_of};
+ghost use Rattle.bulk_model.specs.Facts.{IsOptionList, IsRecordedList, IsFileList, paths_of};
+ghost use Rattle.bulk_model.specs.Facts as facts;
+ghost use Rattle.bulk_model.specs.Views.{need_of};
 ghost use Rattle.outside.specs.Contents.{IsAscending};
 ghost use Rattle.pkg_record.specs.Reading.{Gives, last_of, option_follows, depend_follows, path_follows, is_next_path, option_at, depend_at, file_at};
+ghost use Rattle.pkg_record.specs.Noting.{recorded_of};
 ghost use Rattle.pkg_record.specs.Said as said;
 
 use crate::fault::{ReadError, misfit};
 use crate::line_reader::{line_at, piece};
-use crate::words::{depend_said, file_said, option_said};
+use crate::words::{Noted, depend_said, file_said, option_said};
 use bulk_base::{FileItem, NoMemory, Path, PathError, Sequence, Switch, Text};
-use bulk_model::{DepKind, Depend};
+use bulk_model::{Recorded, Version};
 use std::alloc::{AllocError, Global};
 
 fn follows_option(before: &[Switch], name: &[u8], on: bool) -> bool
@@ -31,7 +34,8 @@ pub(crate) fn option_item<'a>(
     bytes: &'a [u8],
 ) -> Result<(Switch, &'a [u8]), ReadError>
     ensures read { Gives (λ x. (x.0, x.1.now)) result (option_at before.now bytes.now) }
-    ensures form { IsOptionList before.now → IfOk result (λ x. IsOptionList (before.now ++ x.0 ∷ [])) }
+    ensures form { IsOptionList before.now
+        → IfOk result (λ x. IsOptionList (before.now ++ x.0 ∷ [])) }
 {
     let (text, after) = line_at(bytes)?;
     let Some((name, on)) = option_said(text) else {
@@ -44,19 +48,19 @@ pub(crate) fn option_item<'a>(
     Ok((Switch { name, on }, after))
 }
 
-fn comes_before(last: &Depend, kind: DepKind, node: &[u8], name: &[u8]) -> bool
-    ensures { result ≡ Rattle.bulk_model.specs.Facts.comes_before last.now (said.depend kind node.now name.now) }
+fn comes_before(last: &Recorded, depend: &Noted) -> bool
+    ensures { result ≡ facts.comes_before (need_of last.now) (need_of (recorded_of depend.now)) }
 {
-    let by_kind = last.kind.number().cmp(&kind.number());
-    by_kind.then(last.node.bytes().cmp(node)).is_lt()
+    let by_kind = last.kind.number().cmp(&depend.kind.number());
+    by_kind.then(last.node.bytes().cmp(depend.node)).is_lt()
 }
 
-fn follows_depend(before: &[Depend], kind: DepKind, node: &[u8], name: &[u8]) -> bool
-    ensures { result ≡ depend_follows (last_of before.now) (said.depend kind node.now name.now) }
+fn follows_depend(before: &[Recorded], depend: &Noted) -> bool
+    ensures { result ≡ depend_follows (last_of before.now) (recorded_of depend.now) }
 {
     match before.last() {
         None => true,
-        Some(last) => comes_before(last, kind, node, name),
+        Some(last) => comes_before(last, depend),
     }
 }
 
@@ -64,22 +68,30 @@ fn follows_depend(before: &[Depend], kind: DepKind, node: &[u8], name: &[u8]) ->
 #[tactic(auto, unfolding(crate::specs::Reading::said_at, crate::specs::Reading::depend_at))]
 pub(crate) fn depend_item<'a>(
     alloc: Global,
-    before: &[Depend],
+    version: Version,
+    before: &[Recorded],
     bytes: &'a [u8],
-) -> Result<(Depend, &'a [u8]), ReadError>
-    ensures read { Gives (λ x. (x.0, x.1.now)) result (depend_at before.now bytes.now) }
-    ensures form { IsDependList before.now → IfOk result (λ x. IsDependList (before.now ++ x.0 ∷ [])) }
+) -> Result<(Recorded, &'a [u8]), ReadError>
+    ensures read { Gives (λ x. (x.0, x.1.now)) result (depend_at version before.now bytes.now) }
+    ensures form { IsRecordedList before.now
+        → IfOk result (λ x. IsRecordedList (before.now ++ x.0 ∷ [])) }
 {
     let (text, after) = line_at(bytes)?;
-    let Some((kind, node, name)) = depend_said(text) else {
+    let Some(depend) = depend_said(version, text) else {
         return Err(misfit(bytes));
     };
-    if !follows_depend(before, kind, node, name) {
+    if !follows_depend(before, &depend) {
         return Err(misfit(bytes));
     }
-    let node = Text::of(alloc, node)?;
-    let name = Text::of(alloc, name)?;
-    Ok((Depend { kind, node, name }, after))
+    let node = Text::of(alloc, depend.node)?;
+    let name = Text::of(alloc, depend.name)?;
+    let found = Recorded {
+        kind: depend.kind,
+        node,
+        name,
+        digest: depend.digest,
+    };
+    Ok((found, after))
 }
 
 fn follows_path(before: &[FileItem], path: &[u8]) -> bool

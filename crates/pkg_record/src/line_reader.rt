@@ -1,24 +1,25 @@
 // The lines and pieces of a record, read at the front of its bytes.
-ghost use Rattle.std.specs.Prelude.{◌≡◌, codes, bytes_eq, length, IfOk, IfSome, IsTrue};
+ghost use Rattle.std.specs.Prelude.{◌≡◌, codes, length, IfOk, IfSome, IsTrue};
 ghost use Rattle.std.specs.Option.{option_copied};
 ghost use Rattle.bulk_base.specs.Names.{IsOrigin, IsPackageName};
 ghost use Rattle.bulk_base.specs.Names as names;
-ghost use Rattle.pkg_record.specs.Forms.{is_digest};
-ghost use Rattle.pkg_record.specs.Reading.{Gives, said_at, piece_at};
+ghost use Rattle.bulk_model.specs.Digests.{is_digest};
+ghost use Rattle.pkg_record.specs.Reading.{Gives, said_at, piece_at, recipe_at};
+ghost use Rattle.pkg_record.specs.Reading as reading;
 ghost use Rattle.port_name.specs.Forms.{is_origin};
 ghost use Rattle.port_name.specs.PackageForm.{is_package_name};
 ghost use Rattle.pkg_record.specs.Said as said;
 
 use crate::fault::{Fault, ReadError, misfit};
-use crate::forms::is_digest;
-use crate::words::{behind, count_of, flavor_of};
+use crate::words::{behind, count_of, flavor_of, recipe_said, version_said};
 use bulk_base::{NoMemory, Text, cut, place_or_end};
+use bulk_model::{Digest, Version};
 use port_name::{is_origin, is_package_name};
 use std::alloc::Global;
 
 /// The text of the first line and what follows the line.
 pub(crate) fn line_at(bytes: &[u8]) -> Result<(&[u8], &[u8]), ReadError>
-    ensures { Gives (λ x. (x.0.now, x.1.now)) result (Rattle.pkg_record.specs.Reading.line_at bytes.now) }
+    ensures { Gives (λ x. (x.0.now, x.1.now)) result (reading.line_at bytes.now) }
 {
     if place_or_end(bytes, b'\n') < bytes.len() {
         Ok(cut(bytes, b'\n'))
@@ -27,22 +28,45 @@ pub(crate) fn line_at(bytes: &[u8]) -> Result<(&[u8], &[u8]), ReadError>
     }
 }
 
-/// The line that begins every record of this version.
+/// The line that begins a record and tells its version.
 #[tactic(auto, unfolding(crate::specs::Reading::said_at))]
-pub(crate) fn version_line(bytes: &[u8]) -> Result<&[u8], ReadError>
-    ensures { Gives (λ after. (codes "poudriere-package 1", after.now)) result (said_at (said.passing (λ text. bytes_eq text (codes "poudriere-package 1"))) bytes.now) }
+pub(crate) fn version_line(bytes: &[u8]) -> Result<(Version, &[u8]), ReadError>
+    ensures { Gives (λ x. (x.0, x.1.now)) result (said_at said.version_said bytes.now) }
 {
     let (text, after) = line_at(bytes)?;
-    if text != b"poudriere-package 1".as_slice() {
-        return Err(misfit(bytes));
+    match version_said(text) {
+        Some(version) => Ok((version, after)),
+        None => Err(misfit(bytes)),
     }
-    Ok(after)
+}
+
+#[tactic(auto, unfolding(crate::specs::Reading::said_at))]
+fn told_recipe(bytes: &[u8]) -> Result<(Digest, &[u8]), ReadError>
+    ensures { Gives (λ x. (x.0, x.1.now)) result (said_at said.recipe_said bytes.now) }
+{
+    let (text, after) = line_at(bytes)?;
+    match recipe_said(text) {
+        Some(recipe) => Ok((recipe, after)),
+        None => Err(misfit(bytes)),
+    }
+}
+
+/// The line with the digest of the recipe, which version 1 does not have.
+#[tactic(auto, unfolding(crate::specs::Reading::recipe_at))]
+pub(crate) fn recipe_line(version: Version, bytes: &[u8]) -> Result<(Digest, &[u8]), ReadError>
+    ensures { Gives (λ x. (x.0, x.1.now)) result (recipe_at version bytes.now) }
+{
+    match version {
+        Version::One => Ok((Digest::none(), bytes)),
+        Version::Two => told_recipe(bytes),
+    }
 }
 
 /// A line with a count.
 #[tactic(auto, unfolding(crate::specs::Reading::said_at))]
 pub(crate) fn count_line<'a>(heading: &[u8], bytes: &'a [u8]) -> Result<(u64, &'a [u8]), ReadError>
-    ensures { Gives (λ x. (x.0, x.1.now)) result (said_at (said.count_behind heading.now) bytes.now) }
+    ensures { Gives (λ x. (x.0, x.1.now)) result
+        (said_at (said.count_behind heading.now) bytes.now) }
 {
     let (text, after) = line_at(bytes)?;
     let Some(digits) = behind(heading, text) else {
@@ -71,7 +95,8 @@ pub(crate) fn piece(size: u64, bytes: &[u8]) -> Result<(&[u8], &[u8]), ReadError
 /// The line with a package's name.
 #[tactic(auto, unfolding(crate::specs::Reading::said_at))]
 pub(crate) fn name_line(alloc: Global, bytes: &[u8]) -> Result<(Text, &[u8]), ReadError>
-    ensures read { Gives (λ x. (x.0, x.1.now)) result (said_at (said.word_behind (codes "name ") is_package_name) bytes.now) }
+    ensures read { Gives (λ x. (x.0, x.1.now)) result
+        (said_at (said.word_behind (codes "name ") is_package_name) bytes.now) }
     ensures form { IfOk result (λ x. IsPackageName x.0) }
 {
     let (text, after) = line_at(bytes)?;
@@ -87,7 +112,8 @@ pub(crate) fn name_line(alloc: Global, bytes: &[u8]) -> Result<(Text, &[u8]), Re
 /// The line with a port's origin.
 #[tactic(auto, unfolding(crate::specs::Reading::said_at))]
 pub(crate) fn origin_line(alloc: Global, bytes: &[u8]) -> Result<(Text, &[u8]), ReadError>
-    ensures read { Gives (λ x. (x.0, x.1.now)) result (said_at (said.word_behind (codes "origin ") is_origin) bytes.now) }
+    ensures read { Gives (λ x. (x.0, x.1.now)) result
+        (said_at (said.word_behind (codes "origin ") is_origin) bytes.now) }
     ensures form { IfOk result (λ x. IsOrigin x.0) }
 {
     let (text, after) = line_at(bytes)?;
@@ -103,13 +129,14 @@ pub(crate) fn origin_line(alloc: Global, bytes: &[u8]) -> Result<(Text, &[u8]), 
 /// The line with the digest of all bytes before it.
 #[tactic(auto, unfolding(crate::specs::Reading::said_at))]
 pub(crate) fn digest_line(alloc: Global, bytes: &[u8]) -> Result<(Text, &[u8]), ReadError>
-    ensures { Gives (λ x. (x.0, x.1.now)) result (said_at (said.word_behind (codes "sha256 ") is_digest) bytes.now) }
+    ensures { Gives (λ x. (x.0, x.1.now)) result
+        (said_at (said.word_behind (codes "sha256 ") is_digest) bytes.now) }
 {
     let (text, after) = line_at(bytes)?;
     let Some(digest) = behind(b"sha256 ", text) else {
         return Err(misfit(bytes));
     };
-    if !is_digest(digest) {
+    if Digest::from_hex(digest).is_none() {
         return Err(misfit(bytes));
     }
     Ok((Text::of(alloc, digest)?, after))

@@ -1,42 +1,46 @@
 // A package out of its record.
-ghost use Rattle.std.specs.Prelude.{◌≡◌, ◌≢◌, ◌≤◌, List, ℕ, [], ◌++◌, length, IfOk, IfErr, OnOk, IsTrue, MatchResult};
-ghost use Rattle.sha2.specs.Sha256.{sha256};
-ghost use Rattle.hex.specs.Hex.{encode_lower};
+ghost use Rattle.std.specs.Prelude.{◌≡◌, ◌≢◌, List, ℕ, [], ◌++◌, IfOk, IfErr, OnOk, IsTrue, MatchResult};
+ghost use Rattle.bulk_model.specs.declared.version.Version.{Version as AnyVersion};
+ghost use Rattle.bulk_model.specs.Digests.{digest_of as digest_is, hex as hex_of, is_digest};
 ghost use Rattle.bulk_model.specs.Facts.{IsPackage};
-ghost use Rattle.bulk_model.specs.Spelling.{unsigned, signed_with, spelling};
-ghost use Rattle.pkg_record.specs.declared.fault.RecordError.TheVariants.{BadDigest};
-ghost use Rattle.pkg_record.specs.Forms.{is_digest};
-ghost use Rattle.pkg_record.specs.Laws.{HasRecord, IsForDigest, IsRefusedAs};
+ghost use Rattle.bulk_model.specs.Spelling.{unsigned, signed_with, signed};
 ghost use Rattle.bulk_model.specs.Views.{PackageView};
-ghost use Rattle.pkg_record.specs.Reading.{Gives, unsigned_at, last_at, record_of};
+ghost use Rattle.pkg_record.specs.declared.fault.RecordError.TheVariants.{BadDigest};
+ghost use Rattle.pkg_record.specs.Laws.{HasRecord, IsSpelled, IsForDigest, IsRefusedAs};
+ghost use Rattle.pkg_record.specs.Reading.{Gives, unsigned_at, last_at, answer as answer_of, record_of};
 
+use crate::answer::Record;
 use crate::fault::{Fault, ReadError, RecordError, misfit};
-use crate::line_reader::{digest_line, flavor_line, name_line, origin_line, version_line};
+use crate::hash::digest_of;
+use crate::line_reader::{
+    digest_line, flavor_line, name_line, origin_line, recipe_line, version_line,
+};
 use crate::list_reader::lists;
 use bulk_base::{NoMemory, Text};
-use bulk_model::Package;
-use sha2::{Digest, Sha256};
+use bulk_model::{Package, Version};
 use std::alloc::Global;
 
-/// The package that the lines before the digest spell.
+/// The version that the first line tells, and the package that the lines before the digest spell.
 #[tactic(auto, unfolding(crate::specs::Reading::unsigned_at))]
-fn unsigned(alloc: Global, bytes: &[u8]) -> Result<(Package, &[u8]), ReadError>
-    ensures { Gives (λ x. (x.0, x.1.now)) result (unsigned_at bytes.now) }
+fn unsigned(alloc: Global, bytes: &[u8]) -> Result<(Version, Package, &[u8]), ReadError>
+    ensures { Gives (λ x. ((x.0, x.1), x.2.now)) result (unsigned_at bytes.now) }
 {
-    let rest = version_line(bytes)?;
+    let (version, rest) = version_line(bytes)?;
     let (name, rest) = name_line(alloc, rest)?;
     let (origin, rest) = origin_line(alloc, rest)?;
     let (flavor, rest) = flavor_line(alloc, rest)?;
-    let (options, depends, files, rest) = lists(alloc, rest)?;
+    let (recipe, rest) = recipe_line(version, rest)?;
+    let (options, depends, files, rest) = lists(alloc, version, rest)?;
     let built = Package {
         name,
         origin,
         flavor,
+        recipe,
         options,
         depends,
         files,
     };
-    Ok((built, rest))
+    Ok((version, built, rest))
 }
 
 /// The digest that the record's last line states; nothing may stand behind the line.
@@ -50,12 +54,11 @@ fn last_line(alloc: Global, bytes: &[u8]) -> Result<Text, ReadError>
     Ok(stated)
 }
 
-/// SHA-256 in 64 lower-case digits.
+/// The text of SHA-256 of some bytes.
 fn digest_text(alloc: Global, bytes: &[u8]) -> Result<Text, NoMemory>
-    ensures { IfOk result (λ t. t ≡ encode_lower (sha256 bytes.now)) }
+    ensures { IfOk result (λ t. t ≡ hex_of (digest_is bytes.now)) }
 {
-    let digits = hex::encode(alloc, Sha256::digest(bytes))?;
-    Text::of(alloc, digits.as_str().as_bytes())
+    digest_of(bytes).hex(alloc)
 }
 
 /// Why bytes of this length are no record.
@@ -73,13 +76,18 @@ fn refusal(size: usize, error: ReadError) -> RecordError
 
 /// Reads what stands behind a package's lines: the line with the digest of all bytes before it.
 fn verify(alloc: Global, bytes: &[u8], last: &[u8]) -> Result<(), RecordError>
-    ensures ok { OnOk result ((p : PackageView) → unsigned_at bytes.now ≡ Ok (p, last.now)
-        → record_of bytes.now ≡ Ok p) }
+    ensures ok { OnOk result ((version : AnyVersion) (p : PackageView)
+        → unsigned_at bytes.now ≡ Ok ((version, p), last.now)
+        → record_of bytes.now ≡ Ok (answer_of version p)) }
+    ensures spelled { OnOk result ((version : AnyVersion) (p : PackageView) → IsPackage p
+        → unsigned_at bytes.now ≡ Ok ((version, p), last.now)
+        → IsSpelled bytes.now (answer_of version p)) }
     ensures err { IfErr result (λ e. e ≢ RecordError.NoMemory
-        → (p : PackageView) → unsigned_at bytes.now ≡ Ok (p, last.now)
+        → (version : AnyVersion) (p : PackageView)
+        → unsigned_at bytes.now ≡ Ok ((version, p), last.now)
         → record_of bytes.now ≡ Err e) }
-    ensures digest { IfErr result (λ e. (p : PackageView) → IsPackage p
-        → unsigned_at bytes.now ≡ Ok (p, last.now)
+    ensures digest { IfErr result (λ e. (version : AnyVersion) (p : PackageView) → IsPackage p
+        → unsigned_at bytes.now ≡ Ok ((version, p), last.now)
         → IsForDigest bytes.now e) }
 {
     let stated = match last_line(alloc, last) {
@@ -95,46 +103,64 @@ fn verify(alloc: Global, bytes: &[u8], last: &[u8]) -> Result<(), RecordError>
     }
 }
 
-fn judged(alloc: Global, bytes: &[u8]) -> Result<Package, RecordError>
-    ensures ok { IfOk result (λ p. record_of bytes.now ≡ Ok p) }
+/// What is answered of a package's record: of one of version 1, the package's name alone.
+fn answer(version: Version, built: Package) -> Record
+    ensures { result ≡ answer_of version built }
+{
+    match version {
+        Version::One => Record::Old { name: built.name },
+        Version::Two => Record::New(built),
+    }
+}
+
+fn judged(alloc: Global, bytes: &[u8]) -> Result<Record, RecordError>
+    ensures ok { IfOk result (λ x. record_of bytes.now ≡ Ok x) }
+    ensures spelled { IfOk result (λ x. IsSpelled bytes.now x) }
     ensures err { IfErr result (λ e. e ≢ RecordError.NoMemory → record_of bytes.now ≡ Err e) }
     ensures digest { IfErr result (λ e. IsForDigest bytes.now e) }
 {
     match unsigned(alloc, bytes) {
-        Ok((built, last)) => {
+        Ok((version, built, last)) => {
             verify(alloc, bytes, last)?;
-            Ok(built)
+            Ok(answer(version, built))
         }
         Err(error) => Err(refusal(bytes.len(), error)),
     }
 }
 
-/// The package of a record, version 1 (docs/FORMATS.md, "The package record, version 1"; SHA-256 by FIPS 180-4).
+/// What a record is, of version 2 or 1, as its first line tells (docs/FORMATS.md, "The package record"; SHA-256 by FIPS
+/// 180-4): New of the package exactly on its record of version 2, Old of a name exactly on a record of version 1 of a
+/// package with this name.
 ///
 /// Short, BadField and BadDigest as `RecordError` says, the first fault from left to right; NoMemory for want of memory
 /// alone. Each byte is looked at a fixed number of times; a path's folders are looked up among the files before it, in
 /// O(log n) comparisons each. Besides the package, two digests are held.
-pub fn read(alloc: Global, bytes: &[u8]) -> Result<Package, RecordError>
-    // What is read is a package whose record the bytes are.
-    ensures spelled { IfOk result (λ p. bytes.now ≡ spelling p) }
-    // What a package's record is, is read as that package, unless memory runs out.
-    ensures only { (p : PackageView) → HasRecord p → bytes.now ≡ spelling p → MatchResult result (λ x. x ≡ p) (λ e. e ≡ RecordError.NoMemory) }
+pub fn read(alloc: Global, bytes: &[u8]) -> Result<Record, RecordError>
+    // What is read is a package whose record the bytes are, or the name in a record of version 1.
+    ensures spelled { IfOk result (λ x. IsSpelled bytes.now x) }
+    // What a package's record is, is read as that package, or as its name, unless memory runs out.
+    ensures only { (version : AnyVersion) (p : PackageView) → HasRecord version p
+        → bytes.now ≡ signed version p
+        → MatchResult result (λ x. x ≡ answer_of version p) (λ e. e ≡ RecordError.NoMemory) }
     // What is refused for its digest is a package's record but for that.
     ensures digest { IfErr result (λ e. IsForDigest bytes.now e) }
     // What is a package's record but for the 64 digits at its end is refused for them.
-    ensures other_digest { (p : PackageView) (stated : List ℕ) → HasRecord p → IsTrue (is_digest stated) → stated ≢ encode_lower (sha256 (unsigned p)) → bytes.now ≡ signed_with stated p
-        → IsRefusedAs result (BadDigest stated (encode_lower (sha256 (unsigned p)))) }
+    ensures other_digest { (version : AnyVersion) (p : PackageView) (stated : List ℕ)
+        → HasRecord version p → IsTrue (is_digest stated)
+        → stated ≢ hex_of (digest_is (unsigned version p))
+        → bytes.now ≡ signed_with version stated p
+        → IsRefusedAs result (BadDigest stated (hex_of (digest_is (unsigned version p)))) }
     // What a record begins with and is not all of it, is Short, whichever digest the record states.
-    ensures cut { (p : PackageView) (stated more : List ℕ) → HasRecord p → IsTrue (is_digest stated) → signed_with stated p ≡ bytes.now ++ more → more ≢ [] → IsRefusedAs result RecordError.Short }
-    ensures cut_record { (p : PackageView) (more : List ℕ) → HasRecord p → spelling p ≡ bytes.now ++ more → more ≢ [] → IsRefusedAs result RecordError.Short }
+    ensures cut { (version : AnyVersion) (p : PackageView) (stated more : List ℕ)
+        → HasRecord version p → IsTrue (is_digest stated)
+        → signed_with version stated p ≡ bytes.now ++ more → more ≢ []
+        → IsRefusedAs result RecordError.Short }
+    ensures cut_record { (version : AnyVersion) (p : PackageView) (more : List ℕ)
+        → HasRecord version p → signed version p ≡ bytes.now ++ more → more ≢ []
+        → IsRefusedAs result RecordError.Short }
     // Which answer it is, from left to right.
-    ensures ok { IfOk result (λ p. record_of bytes.now ≡ Ok p) }
+    ensures ok { IfOk result (λ x. record_of bytes.now ≡ Ok x) }
     ensures err { IfErr result (λ e. e ≢ RecordError.NoMemory → record_of bytes.now ≡ Err e) }
 {
     judged(alloc, bytes)
 }
-
-/// No record begins another, so that a record ends by itself and one package has one record.
-pub fn no_record_begins_another()
-    ensures { (p q : PackageView) (more : List ℕ) → HasRecord p → HasRecord q → spelling q ≡ spelling p ++ more → (p ≡ q) × (more ≡ []) }
-{}

@@ -1,13 +1,17 @@
 // What the text of a line says, where it fits.
 ghost use Rattle.std.specs.Prelude.{◌≡◌, codes, IsTrue, IfSome};
+ghost use Rattle.std.specs.Char.{is_ascii_digit};
+ghost use Rattle.std.specs.List.{list_all};
 ghost use Rattle.std.specs.Option.{option_map, option_copied};
 ghost use Rattle.bulk_base.specs.Names.{is_option_name};
 ghost use Rattle.port_name.specs.Forms as forms;
 ghost use Rattle.port_name.specs.PackageForm as package_form;
+ghost use Rattle.pkg_record.specs.Laws.{IsDigest};
+ghost use Rattle.pkg_record.specs.Noting.{recorded_of};
 ghost use Rattle.pkg_record.specs.Said as said;
 
 use bulk_base::cut;
-use bulk_model::DepKind;
+use bulk_model::{DepKind, Digest, Version};
 use port_name::{is_flavor, is_node, is_option_name, is_package_name};
 use std::str;
 
@@ -19,6 +23,47 @@ pub(crate) fn behind<'a>(heading: &[u8], text: &'a [u8]) -> Option<&'a [u8]>
         Some(&text[heading.len()..])
     } else {
         None
+    }
+}
+
+/// The version that a record's first line tells.
+pub(crate) fn version_said(text: &[u8]) -> Option<Version>
+    ensures { result ≡ said.version_said text.now }
+{
+    if text == b"poudriere-package 1".as_slice() {
+        Some(Version::One)
+    } else if text == b"poudriere-package 2".as_slice() {
+        Some(Version::Two)
+    } else {
+        None
+    }
+}
+
+/// A digest, which has 32 bytes.
+fn kept(digest: Digest) -> Digest
+    ensures same { result ≡ digest }
+    ensures form { IsDigest result }
+{
+    digest
+}
+
+/// The digest of which a word is the text.
+fn digest_said(word: &[u8]) -> Option<Digest>
+    ensures { result ≡ said.digest_said word.now }
+{
+    match Digest::from_hex(word) {
+        Some(digest) => Some(kept(digest)),
+        None => None,
+    }
+}
+
+/// The digest that a recipe's line says.
+pub(crate) fn recipe_said(text: &[u8]) -> Option<Digest>
+    ensures { result ≡ said.recipe_said text.now }
+{
+    match behind(b"recipe ", text) {
+        Some(word) => digest_said(word),
+        None => None,
     }
 }
 
@@ -36,7 +81,7 @@ pub(crate) fn flavor_of(word: &[u8]) -> Option<Option<&[u8]>>
 }
 
 fn has_digits(digits: &[u8]) -> bool
-    ensures { result ≡ Rattle.std.specs.List.list_all Rattle.std.specs.Char.is_ascii_digit digits.now }
+    ensures { result ≡ list_all is_ascii_digit digits.now }
 {
     digits.iter().all(|b| b.is_ascii_digit())
 }
@@ -119,44 +164,75 @@ pub(crate) fn option_said(text: &[u8]) -> Option<(&[u8], bool)>
     }
 }
 
-fn named_depend<'a>(
-    node: &'a [u8],
-    name: &'a [u8],
-    kind: DepKind,
-) -> Option<(DepKind, &'a [u8], &'a [u8])>
-    ensures read { option_map (λ x. said.depend x.0 x.1.now x.2.now) result ≡ said.named_depend node.now name.now kind }
-    ensures node { IfSome result (λ x. IsTrue (forms.is_node x.1.now)) }
-    ensures name { IfSome result (λ x. IsTrue (package_form.is_package_name x.2.now)) }
+/// What a record tells of a dependency.
+#[derive(Clone, Copy)]
+pub(crate) struct Noted<'a> {
+    pub(crate) kind: DepKind,
+    pub(crate) node: &'a [u8],
+    pub(crate) name: &'a [u8],
+    pub(crate) digest: Digest,
+}
+
+/// A package's name and the digest of its record, which version 1 does not tell.
+fn mark_in(version: Version, words: &[u8]) -> Option<(&[u8], Digest)>
+    ensures { option_map (λ x. (x.0.now, x.1)) result ≡ said.mark_in version words.now }
 {
-    if is_node(node) && is_package_name(name) {
-        Some((kind, node, name))
-    } else {
-        None
+    match version {
+        Version::One => Some((words, Digest::none())),
+        Version::Two => {
+            let (name, word) = cut(words, b' ');
+            match digest_said(word) {
+                Some(digest) => Some((name, digest)),
+                None => None,
+            }
+        }
     }
 }
 
-/// A dependency's kind, its node and the name of that node's package.
-fn depend_in(words: &[u8]) -> Option<(DepKind, &[u8], &[u8])>
-    ensures read { option_map (λ x. said.depend x.0 x.1.now x.2.now) result ≡ said.depend_in words.now }
-    ensures node { IfSome result (λ x. IsTrue (forms.is_node x.1.now)) }
-    ensures name { IfSome result (λ x. IsTrue (package_form.is_package_name x.2.now)) }
+fn named_depend<'a>(
+    version: Version,
+    node: &'a [u8],
+    words: &'a [u8],
+    kind: DepKind,
+) -> Option<Noted<'a>>
+    ensures read { option_map recorded_of result
+        ≡ said.named_depend version node.now words.now kind }
+    ensures node { IfSome result (λ x. IsTrue (forms.is_node x.node.now)) }
+    ensures name { IfSome result (λ x. IsTrue (package_form.is_package_name x.name.now)) }
+{
+    match mark_in(version, words) {
+        Some((name, digest)) if is_node(node) && is_package_name(name) => Some(Noted {
+            kind,
+            node,
+            name,
+            digest,
+        }),
+        _ => None,
+    }
+}
+
+/// A dependency's kind, its node and what is told of that node's package.
+fn depend_in(version: Version, words: &[u8]) -> Option<Noted<'_>>
+    ensures read { option_map recorded_of result ≡ said.depend_in version words.now }
+    ensures node { IfSome result (λ x. IsTrue (forms.is_node x.node.now)) }
+    ensures name { IfSome result (λ x. IsTrue (package_form.is_package_name x.name.now)) }
 {
     let (word, rest) = cut(words, b' ');
-    let (node, name) = cut(rest, b' ');
+    let (node, last) = cut(rest, b' ');
     match kind_of(word) {
-        Some(kind) => named_depend(node, name, kind),
+        Some(kind) => named_depend(version, node, last, kind),
         None => None,
     }
 }
 
 /// What a dependency's line says.
-pub(crate) fn depend_said(text: &[u8]) -> Option<(DepKind, &[u8], &[u8])>
-    ensures read { option_map (λ x. said.depend x.0 x.1.now x.2.now) result ≡ said.depend_said text.now }
-    ensures node { IfSome result (λ x. IsTrue (forms.is_node x.1.now)) }
-    ensures name { IfSome result (λ x. IsTrue (package_form.is_package_name x.2.now)) }
+pub(crate) fn depend_said(version: Version, text: &[u8]) -> Option<Noted<'_>>
+    ensures read { option_map recorded_of result ≡ said.depend_said version text.now }
+    ensures node { IfSome result (λ x. IsTrue (forms.is_node x.node.now)) }
+    ensures name { IfSome result (λ x. IsTrue (package_form.is_package_name x.name.now)) }
 {
     match behind(b"depend ", text) {
-        Some(words) => depend_in(words),
+        Some(words) => depend_in(version, words),
         None => None,
     }
 }

@@ -7,7 +7,7 @@ use case_text::{
     CaseError, bytes_of, number_of, path_of, push_number, push_str, push_text, push_texts, text_of,
     words_of,
 };
-use std::alloc::Global;
+use std::alloc::{AllocError, Global};
 
 /// Whether bytes are a text, by the reader and by the test.
 pub(crate) fn answer_text(alloc: Global, field: &str, out: &mut Vec<u8>) -> Result<(), CaseError> {
@@ -28,17 +28,32 @@ pub(crate) fn answer_text(alloc: Global, field: &str, out: &mut Vec<u8>) -> Resu
     Ok(())
 }
 
+/// Puts a path at the end, read again from its text and copied.
+fn push_path(alloc: Global, path: &Path, out: &mut Vec<u8>) -> Result<(), CaseError> {
+    let again = Path::from_text(alloc, path.text())?;
+    Ok(push_text(out, again.copy(alloc)?.text())?)
+}
+
 /// The path that bytes spell.
 pub(crate) fn answer_path(alloc: Global, field: &str, out: &mut Vec<u8>) -> Result<(), CaseError> {
     match Path::from_bytes(alloc, bytes_of(alloc, field)?.as_slice()) {
-        Ok(path) => push_text(
-            out,
-            Path::from_text(alloc, path.text())?.copy(alloc)?.text(),
-        )?,
-        Err(PathError::BadPath) => push_str(out, "BadPath")?,
-        Err(PathError::NoMemory) => return Err(CaseError::NoMemory),
+        Ok(path) => push_path(alloc, &path, out),
+        Err(PathError::BadPath) => Ok(push_str(out, "BadPath")?),
+        Err(PathError::NoMemory) => Err(CaseError::NoMemory),
     }
-    Ok(())
+}
+
+fn push_joined(
+    alloc: Global,
+    folder: &Path,
+    rest: &Path,
+    out: &mut Vec<u8>,
+) -> Result<(), CaseError> {
+    match folder.join(alloc, rest) {
+        Ok(path) => Ok(push_text(out, path.text())?),
+        Err(PathError::BadPath) => Ok(push_str(out, "BadPath")?),
+        Err(PathError::NoMemory) => Err(CaseError::NoMemory),
+    }
 }
 
 /// A folder's path and one below it, joined.
@@ -48,12 +63,28 @@ pub(crate) fn answer_join(
     rest: &str,
     out: &mut Vec<u8>,
 ) -> Result<(), CaseError> {
-    match path_of(alloc, folder)?.join(alloc, &path_of(alloc, rest)?) {
-        Ok(path) => push_text(out, path.text())?,
-        Err(PathError::BadPath) => push_str(out, "BadPath")?,
-        Err(PathError::NoMemory) => return Err(CaseError::NoMemory),
-    }
-    Ok(())
+    let folder = path_of(alloc, folder)?;
+    let rest = path_of(alloc, rest)?;
+    push_joined(alloc, &folder, &rest, out)
+}
+
+fn push_placed(folder: &Path, path: &Path, out: &mut Vec<u8>) -> Result<(), AllocError> {
+    push_str(
+        out,
+        if path.is_below(folder) {
+            "below, "
+        } else {
+            "not below, "
+        },
+    )?;
+    push_str(
+        out,
+        if path.collides(folder) {
+            "collides"
+        } else {
+            "apart"
+        },
+    )
 }
 
 /// How a path stands to a folder.
@@ -65,23 +96,7 @@ pub(crate) fn answer_placed(
 ) -> Result<(), CaseError> {
     let folder = path_of(alloc, folder)?;
     let path = path_of(alloc, path)?;
-    push_str(
-        out,
-        if path.is_below(&folder) {
-            "below, "
-        } else {
-            "not below, "
-        },
-    )?;
-    push_str(
-        out,
-        if path.collides(&folder) {
-            "collides"
-        } else {
-            "apart"
-        },
-    )?;
-    Ok(())
+    Ok(push_placed(&folder, &path, out)?)
 }
 
 /// The words of a text, each in brackets.

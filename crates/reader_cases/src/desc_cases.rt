@@ -4,20 +4,30 @@ use bulk_base::{Sequence, Switch, Switches, Text};
 use bulk_model::{Commands, DepKind, Steps};
 use case_text::{CaseError, option_of, push_number, push_str, push_text, push_texts, words_of};
 use port_desc::{Desc, DescError, Entries, describe, flavors, missing};
+use port_vars::Vars;
 use std::alloc::{AllocError, Global};
 
-/// Options of which `+` says that they are on, and any other first byte that they are off.
+/// An option of which `+` says that it is on, and any other first byte that it is off.
+fn switch_of(alloc: Global, word: &Text) -> Result<Switch, CaseError> {
+    let Some((sign, name)) = word.bytes().split_first() else {
+        return Err(CaseError::Unfit);
+    };
+    Ok(Switch {
+        name: Text::from_bytes(alloc, name)?,
+        on: *sign == b'+',
+    })
+}
+
+fn add_switches(alloc: Global, found: &mut Switches, words: &[Text]) -> Result<(), CaseError> {
+    for word in words {
+        found.push(switch_of(alloc, word)?)?;
+    }
+    Ok(())
+}
+
 fn switches_of(alloc: Global, field: &str) -> Result<Switches, CaseError> {
     let mut found = Sequence::new(alloc);
-    for word in words_of(alloc, field)?.as_slice() {
-        let Some((sign, name)) = word.bytes().split_first() else {
-            return Err(CaseError::Unfit);
-        };
-        found.push(Switch {
-            name: Text::from_bytes(alloc, name)?,
-            on: *sign == b'+',
-        })?;
-    }
+    add_switches(alloc, &mut found, words_of(alloc, field)?.as_slice())?;
     Ok(found)
 }
 
@@ -101,6 +111,31 @@ fn push_refusal(alloc: Global, refusal: &DescError, out: &mut Vec<u8>) -> Result
     push_str(out, refusal.to_string(alloc)?.as_str())
 }
 
+fn push_description(
+    alloc: Global,
+    vars: &Vars,
+    flavor: Option<&Text>,
+    options: &Switches,
+    out: &mut Vec<u8>,
+) -> Result<(), AllocError> {
+    match describe(alloc, vars, flavor, options) {
+        Ok(desc) => push_desc(alloc, out, &desc),
+        Err(refusal) => push_refusal(alloc, &refusal, out),
+    }
+}
+
+fn describe_by(
+    alloc: Global,
+    vars: &Vars,
+    flavor: &str,
+    options: &str,
+    out: &mut Vec<u8>,
+) -> Result<(), CaseError> {
+    let flavor = option_of(alloc, flavor)?;
+    let options = switches_of(alloc, options)?;
+    Ok(push_description(alloc, vars, flavor.as_ref(), &options, out)?)
+}
+
 /// What variables say of a flavor, or of the port for `-`, with some options.
 pub(crate) fn answer_describe(
     alloc: Global,
@@ -109,11 +144,13 @@ pub(crate) fn answer_describe(
     options: &str,
     out: &mut Vec<u8>,
 ) -> Result<(), CaseError> {
-    let vars = vars_of(alloc, vars)?;
-    let flavor = option_of(alloc, flavor)?;
-    match describe(alloc, &vars, flavor.as_ref(), &switches_of(alloc, options)?) {
-        Ok(desc) => Ok(push_desc(alloc, out, &desc)?),
-        Err(refusal) => Ok(push_refusal(alloc, &refusal, out)?),
+    describe_by(alloc, &vars_of(alloc, vars)?, flavor, options, out)
+}
+
+fn push_flavors(alloc: Global, vars: &Vars, out: &mut Vec<u8>) -> Result<(), AllocError> {
+    match flavors(alloc, vars) {
+        Ok(listed) => push_texts(out, listed.as_slice()),
+        Err(refusal) => push_refusal(alloc, &refusal, out),
     }
 }
 
@@ -123,10 +160,7 @@ pub(crate) fn answer_flavors(
     vars: &str,
     out: &mut Vec<u8>,
 ) -> Result<(), CaseError> {
-    match flavors(alloc, &vars_of(alloc, vars)?) {
-        Ok(listed) => Ok(push_texts(out, listed.as_slice())?),
-        Err(refusal) => Ok(push_refusal(alloc, &refusal, out)?),
-    }
+    Ok(push_flavors(alloc, &vars_of(alloc, vars)?, out)?)
 }
 
 /// The variable that every port sets and these do not.

@@ -83,17 +83,19 @@ fn push_line(out: &mut Vec<u8>, line: &MovedLine) -> Result<(), AllocError> {
     push_str(out, "]; ")
 }
 
+fn push_lines(alloc: Global, moved: &Moved, out: &mut Vec<u8>) -> Result<(), AllocError> {
+    push_number(alloc, out, moved.lines().len() as u64)?;
+    push_str(out, ": ")?;
+    for line in moved.lines() {
+        push_line(out, line)?;
+    }
+    Ok(())
+}
+
 /// The lines of a file, field by field.
 pub(crate) fn answer_lines(alloc: Global, file: &str, out: &mut Vec<u8>) -> Result<(), CaseError> {
     match read_field(alloc, file)? {
-        Ok(moved) => {
-            push_number(alloc, out, moved.lines().len() as u64)?;
-            push_str(out, ": ")?;
-            for line in moved.lines() {
-                push_line(out, line)?;
-            }
-            Ok(())
-        }
+        Ok(moved) => Ok(push_lines(alloc, &moved, out)?),
         Err(fault) => Ok(push_fault(alloc, fault, out)?),
     }
 }

@@ -71,28 +71,58 @@ pub(crate) fn answer_name(alloc: Global, field: &str, out: &mut Vec<u8>) -> Resu
     Ok(())
 }
 
+fn push_name(alloc: Global, parts: &NameParts, out: &mut Vec<u8>) -> Result<(), AllocError> {
+    match pkgname(alloc, parts) {
+        Ok(name) => push_text(out, &name),
+        Err(fault) => push_fault(alloc, fault, out),
+    }
+}
+
+/// A port's name between its prefix and its suffix.
+fn named_of(
+    alloc: Global,
+    [prefix, portname, suffix]: [&str; 3],
+) -> Result<(Text, Text, Text), CaseError> {
+    let prefix = text_of(alloc, prefix)?;
+    let portname = text_of(alloc, portname)?;
+    let suffix = text_of(alloc, suffix)?;
+    Ok((prefix, portname, suffix))
+}
+
+/// A port's revision and epoch.
+fn counts_of(
+    alloc: Global,
+    [revision, epoch]: [&str; 2],
+) -> Result<(Option<Text>, Option<Text>), CaseError> {
+    let revision = option_of(alloc, revision)?;
+    let epoch = option_of(alloc, epoch)?;
+    Ok((revision, epoch))
+}
+
+fn parts_of(alloc: Global, fields: &[&str]) -> Result<NameParts, CaseError> {
+    let [prefix, portname, suffix, version, revision, epoch] = fields else {
+        return Err(CaseError::Unfit);
+    };
+    let (revision, epoch) = counts_of(alloc, [revision, epoch])?;
+    let (prefix, portname, suffix) = named_of(alloc, [prefix, portname, suffix])?;
+    let version = text_of(alloc, version)?;
+    Ok(NameParts {
+        prefix,
+        portname,
+        suffix,
+        version,
+        revision,
+        epoch,
+    })
+}
+
 /// The name that a package's parts give.
 pub(crate) fn answer_package(
     alloc: Global,
     fields: &[&str],
     out: &mut Vec<u8>,
 ) -> Result<(), CaseError> {
-    let [prefix, portname, suffix, version, revision, epoch] = fields else {
-        return Err(CaseError::Unfit);
-    };
-    let parts = NameParts {
-        prefix: text_of(alloc, prefix)?,
-        portname: text_of(alloc, portname)?,
-        suffix: text_of(alloc, suffix)?,
-        version: text_of(alloc, version)?,
-        revision: option_of(alloc, revision)?,
-        epoch: option_of(alloc, epoch)?,
-    };
-    match pkgname(alloc, &parts) {
-        Ok(name) => push_text(out, &name)?,
-        Err(fault) => push_fault(alloc, fault, out)?,
-    }
-    Ok(())
+    Ok(push_name(alloc, &parts_of(alloc, fields)?, out)?)
 }
 
 /// Whether each of some words is in a set of names.

@@ -1,6 +1,6 @@
 // Options and their layers.
 use crate::vars_cases::{kind_name, vars_of};
-use bulk_base::{Switch, Text};
+use bulk_base::{Switch, Text, Texts};
 use case_text::{CaseError, bytes_of, push_str, push_text, push_texts, text_of, words_of};
 use conf_file::{ConfError, ConfKind, MakeConf, read_make};
 use option_set::{Layers, OptionError, asked, choose};
@@ -37,6 +37,13 @@ fn push_refusal(alloc: Global, refusal: &OptionError, out: &mut Vec<u8>) -> Resu
     Ok(())
 }
 
+/// The options that a layer sets, and those that it unsets.
+fn lists_of(alloc: Global, set: &str, unset: &str) -> Result<(Texts, Texts), CaseError> {
+    let set = words_of(alloc, set)?;
+    let unset = words_of(alloc, unset)?;
+    Ok((set, unset))
+}
+
 fn layers_of(alloc: Global, fields: &[&str]) -> Result<Layers, CaseError> {
     let [
         global_set,
@@ -49,14 +56,39 @@ fn layers_of(alloc: Global, fields: &[&str]) -> Result<Layers, CaseError> {
     else {
         return Err(CaseError::Unfit);
     };
+    let (global_set, global_unset) = lists_of(alloc, global_set, global_unset)?;
+    let (port_set, port_unset) = lists_of(alloc, port_set, port_unset)?;
+    let (file_set, file_unset) = lists_of(alloc, file_set, file_unset)?;
     Ok(Layers {
-        global_set: words_of(alloc, global_set)?,
-        global_unset: words_of(alloc, global_unset)?,
-        port_set: words_of(alloc, port_set)?,
-        port_unset: words_of(alloc, port_unset)?,
-        file_set: words_of(alloc, file_set)?,
-        file_unset: words_of(alloc, file_unset)?,
+        global_set,
+        global_unset,
+        port_set,
+        port_unset,
+        file_set,
+        file_unset,
     })
+}
+
+fn push_asked(
+    alloc: Global,
+    options: &Texts,
+    default: &Texts,
+    layers: &Layers,
+    out: &mut Vec<u8>,
+) -> Result<(), AllocError> {
+    let found = asked(alloc, options, default, layers)?;
+    push_switches(out, found.as_slice())
+}
+
+fn ask_by(
+    alloc: Global,
+    options: &str,
+    default: &str,
+    layers: &Layers,
+    out: &mut Vec<u8>,
+) -> Result<(), CaseError> {
+    let (options, default) = lists_of(alloc, options, default)?;
+    Ok(push_asked(alloc, &options, &default, layers, out)?)
 }
 
 /// Options with their states by the port's default and the layers.
@@ -67,11 +99,7 @@ pub(crate) fn answer_asked(
     layers: &[&str],
     out: &mut Vec<u8>,
 ) -> Result<(), CaseError> {
-    let layers = layers_of(alloc, layers)?;
-    let options = words_of(alloc, options)?;
-    let default = words_of(alloc, default)?;
-    let found = asked(alloc, &options, &default, &layers)?;
-    Ok(push_switches(out, found.as_slice())?)
+    ask_by(alloc, options, default, &layers_of(alloc, layers)?, out)
 }
 
 fn push_choice(
@@ -86,6 +114,15 @@ fn push_choice(
     }
 }
 
+fn choose_by(
+    alloc: Global,
+    vars: &str,
+    layers: &Layers,
+    out: &mut Vec<u8>,
+) -> Result<(), CaseError> {
+    Ok(push_choice(alloc, &vars_of(alloc, vars)?, layers, out)?)
+}
+
 /// What a port's variables and the layers choose.
 pub(crate) fn answer_options(
     alloc: Global,
@@ -93,8 +130,16 @@ pub(crate) fn answer_options(
     layers: &[&str],
     out: &mut Vec<u8>,
 ) -> Result<(), CaseError> {
-    let layers = layers_of(alloc, layers)?;
-    Ok(push_choice(alloc, &vars_of(alloc, vars)?, &layers, out)?)
+    choose_by(alloc, vars, &layers_of(alloc, layers)?, out)
+}
+
+fn push_words(
+    alloc: Global,
+    vars: &Vars,
+    name: &Text,
+    out: &mut Vec<u8>,
+) -> Result<(), AllocError> {
+    push_texts(out, words_in(alloc, vars, name)?.as_slice())
 }
 
 /// The words of a variable.
@@ -105,8 +150,8 @@ pub(crate) fn answer_words_of(
     out: &mut Vec<u8>,
 ) -> Result<(), CaseError> {
     let vars = vars_of(alloc, vars)?;
-    let found = words_in(alloc, &vars, &text_of(alloc, name)?)?;
-    Ok(push_texts(out, found.as_slice())?)
+    let name = text_of(alloc, name)?;
+    Ok(push_words(alloc, &vars, &name, out)?)
 }
 
 fn push_fault(alloc: Global, fault: ConfError, out: &mut Vec<u8>) -> Result<(), AllocError> {
@@ -121,8 +166,25 @@ fn push_fault(alloc: Global, fault: ConfError, out: &mut Vec<u8>) -> Result<(), 
     push_str(out, fault.to_string(alloc)?.as_str())
 }
 
+fn origin_a_x(alloc: Global) -> Result<Origin, AllocError> {
+    let category = Text::literal(alloc, b"a")?;
+    let port = Text::literal(alloc, b"x")?;
+    Ok(Origin { category, port })
+}
+
 /// The options of the port `a/x` under make.conf.
 fn push_made(
+    alloc: Global,
+    make: &MakeConf,
+    file: &Vars,
+    port: &Vars,
+    out: &mut Vec<u8>,
+) -> Result<(), AllocError> {
+    let layers = make.layers(alloc, &origin_a_x(alloc)?, file)?;
+    push_choice(alloc, port, &layers, out)
+}
+
+fn make_by(
     alloc: Global,
     make: &MakeConf,
     file: &str,
@@ -130,12 +192,9 @@ fn push_made(
     out: &mut Vec<u8>,
 ) -> Result<(), CaseError> {
     push_str(out, if make.try_broken { "tries" } else { "" })?;
-    let origin = Origin {
-        category: Text::literal(alloc, b"a")?,
-        port: Text::literal(alloc, b"x")?,
-    };
-    let layers = make.layers(alloc, &origin, &vars_of(alloc, file)?)?;
-    Ok(push_choice(alloc, &vars_of(alloc, port)?, &layers, out)?)
+    let file = vars_of(alloc, file)?;
+    let port = vars_of(alloc, port)?;
+    Ok(push_made(alloc, make, &file, &port, out)?)
 }
 
 /// What make.conf, the options file and the variables of the port `a/x` choose, or make.conf's fault.
@@ -147,7 +206,7 @@ pub(crate) fn answer_make(
     out: &mut Vec<u8>,
 ) -> Result<(), CaseError> {
     match read_make(alloc, bytes_of(alloc, make)?.as_slice()) {
-        Ok(make) => push_made(alloc, &make, file, port, out),
+        Ok(make) => make_by(alloc, &make, file, port, out),
         Err(fault) => Ok(push_fault(alloc, fault, out)?),
     }
 }

@@ -2,6 +2,7 @@
 #![tactic(auto)]
 
 mod digests;
+mod recipes;
 mod records;
 
 use case_text::{CaseError, shown_answer};
@@ -14,6 +15,9 @@ fn answer(alloc: Global, case: &[&str], out: &mut Vec<u8>) -> Result<(), CaseErr
         ["cuts", field] => records::answer_cuts(alloc, field, out),
         ["changed", place, byte, field] => records::answer_changed(alloc, place, byte, field, out),
         ["digest", field] => digests::answer_digest(alloc, field, out),
+        ["recipe", record, steps, base] => {
+            recipes::answer_recipe(alloc, [record, steps, base], out)
+        }
         _ => Err(CaseError::Unfit),
     }
 }

@@ -1,7 +1,7 @@
 // Records that are read, written again and refused.
-use bulk_model::{DepKind, Package, weight};
+use bulk_model::{DepKind, Digest, Package, weight};
 use case_text::{CaseError, bytes_of, number_of, push_number, push_str, push_text};
-use pkg_record::{RecordError, read, write};
+use pkg_record::{Record, RecordError, mark, read, write};
 use std::alloc::{AllocError, Global};
 
 fn push_fault(alloc: Global, fault: &RecordError, out: &mut Vec<u8>) -> Result<(), AllocError> {
@@ -41,12 +41,23 @@ fn push_options(out: &mut Vec<u8>, package: &Package) -> Result<(), AllocError> 
     Ok(())
 }
 
-fn push_depends(out: &mut Vec<u8>, package: &Package) -> Result<(), AllocError> {
+/// Puts the digits of a digest at the end.
+pub(crate) fn push_digest(
+    alloc: Global,
+    digest: &Digest,
+    out: &mut Vec<u8>,
+) -> Result<(), AllocError> {
+    push_text(out, &digest.hex(alloc)?)
+}
+
+fn push_depends(alloc: Global, package: &Package, out: &mut Vec<u8>) -> Result<(), AllocError> {
     for depend in &package.depends {
         push_str(out, kind_name(depend.kind))?;
         push_text(out, &depend.node)?;
         push_str(out, ",")?;
         push_text(out, &depend.name)?;
+        push_str(out, ",")?;
+        push_digest(alloc, &depend.digest, out)?;
     }
     Ok(())
 }
@@ -62,15 +73,7 @@ fn push_files(out: &mut Vec<u8>, package: &Package) -> Result<(), AllocError> {
     Ok(())
 }
 
-/// Puts the package at the end, and whether the bytes are its record when it is written again.
-fn push_package(
-    alloc: Global,
-    package: &Package,
-    record: &[u8],
-    out: &mut Vec<u8>,
-) -> Result<(), AllocError> {
-    push_number(alloc, out, record.len() as u64)?;
-    push_str(out, " bytes: ")?;
+fn push_package(alloc: Global, package: &Package, out: &mut Vec<u8>) -> Result<(), AllocError> {
     push_text(out, &package.name)?;
     push_str(out, " ")?;
     push_text(out, &package.origin)?;
@@ -78,11 +81,24 @@ fn push_package(
         push_str(out, "@")?;
         push_text(out, flavor)?;
     }
+    push_str(out, " ")?;
+    push_digest(alloc, &package.recipe, out)?;
     push_options(out, package)?;
-    push_depends(out, package)?;
-    push_files(out, package)?;
+    push_depends(alloc, package, out)?;
+    push_files(out, package)
+}
+
+/// Puts what is said of a package at the end, and whether the bytes are its record when it is written again.
+fn push_again(
+    alloc: Global,
+    package: &Package,
+    record: &[u8],
+    out: &mut Vec<u8>,
+) -> Result<(), AllocError> {
     push_str(out, "; weight ")?;
     push_number(alloc, out, weight(package))?;
+    push_str(out, "; mark ")?;
+    push_digest(alloc, &mark(alloc, package)?, out)?;
     let again = write(alloc, package)?;
     push_str(
         out,
@@ -94,9 +110,30 @@ fn push_package(
     )
 }
 
+/// Puts what a record says at the end; of one of version 1 the package's name alone.
+fn push_record(
+    alloc: Global,
+    found: &Record,
+    record: &[u8],
+    out: &mut Vec<u8>,
+) -> Result<(), AllocError> {
+    push_number(alloc, out, record.len() as u64)?;
+    push_str(out, " bytes: ")?;
+    match found {
+        Record::New(package) => {
+            push_package(alloc, package, out)?;
+            push_again(alloc, package, record, out)
+        }
+        Record::Old { name } => {
+            push_str(out, "old ")?;
+            push_text(out, name)
+        }
+    }
+}
+
 fn push_read(alloc: Global, record: &[u8], out: &mut Vec<u8>) -> Result<(), AllocError> {
     match read(alloc, record) {
-        Ok(package) => push_package(alloc, &package, record, out),
+        Ok(found) => push_record(alloc, &found, record, out),
         Err(fault) => push_fault(alloc, &fault, out),
     }
 }

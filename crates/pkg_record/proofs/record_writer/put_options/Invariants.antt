@@ -1,6 +1,6 @@
 use Rattle.std.proofs.Common.{◌≡◌, ◌++◌, take}
 use Rattle.std.specs.List.{flat_map}
-use Rattle.bulk_model.specs.Spelling.{option_line}
+use Rattle.bulk_model.specs.Lines.{option_line}
 use Rattle.pkg_record.proofs.record_writer.put_options.Given as goal
 
 abbrev pub invariant-loop-option : goal.invariant-loop-option
