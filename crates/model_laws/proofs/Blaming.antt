@@ -5,7 +5,7 @@ use Rattle.std.specs.List.{fold}
 use Rattle.std.specs.Option.{option_map_or}
 use Rattle.std.proofs.lemmas.Bool.{cases_lt}
 use Rattle.bulk_base.specs.Least.{least}
-use Rattle.bulk_base.proofs.Members.{contains_here, contains_more, contains_cases, contains_none, filter_into, filter_out_of, Member, any_member}
+use Rattle.bulk_base.proofs.Members.{contains_here, contains_more, contains_cases, contains_none, filter_into, filter_out_of, any_member}
 use Rattle.bulk_model.specs.declared.results.Status.{Status}
 use Rattle.bulk_model.specs.declared.results.Status.TheVariants.{Kept, Built, Failed, Ignored, Skipped}
 use Rattle.bulk_model.specs.Cause.{least_setback, cause_within, cause}
@@ -83,7 +83,7 @@ module _ (plan : PlanView) (statuses : List Status) where
     pub setback : (n : ℕ) → n < count plan → is_skipped (status_in statuses n) ≡ true
         → (d : ℕ) × (least_setback plan statuses n ≡ Some d)
     setback n l skipped =
-        let m : Member lacks (depends plan n) = any_member lacks (depends plan n) (fits.skipped n l skipped) in
+        let m = any_member lacks (depends plan n) (fits.skipped n l skipped) in
         least_there (filter lacks (depends plan n)) m.one (filter_into lacks (depends plan n) m.one m.is m.does)
 
     pub causes_unfold : (n : ℕ) → n < count plan → is_skipped (status_in statuses n) ≡ true

@@ -39,19 +39,24 @@ module _ (P : Outcome → Type 0) (fails : (phase : Phase) (code : ℕ) → P (F
       → P (run_phases runs pack phases folder)
   phases_keep runs pack packs [] folder = packs _
   phases_keep runs pack packs (phase ∷ phases) folder =
-      either ((run_all runs phase.1 folder).0 == 0) (run_phases runs pack phases (run_all runs phase.1 folder).1) (FailedBuild phase.0 (run_all runs phase.1 folder).0)
-      (phases_keep runs pack packs phases (run_all runs phase.1 folder).1) (fails phase.0 (run_all runs phase.1 folder).0)
+      let ran = run_all runs phase.1 folder in
+      either (ran.0 == 0) (run_phases runs pack phases ran.1) (FailedBuild phase.0 ran.0)
+      (phases_keep runs pack packs phases ran.1) (fails phase.0 ran.0)
 
   pub bake_keeps : (runs : Runs) (base : List FileItem) (job : JobView) (packages : List PackageView)
       → ((files : List FileItem) → P (packed base job packages files))
       → P (bake runs base job packages)
   bake_keeps runs base job packages packs =
-      either (is_some (first_conflict [] (installed packages))) (FailedBuild DependsPhase 1) (run_phases runs (packed base job packages) (phases_of job.steps) (first_folder base packages job))
-      (fails DependsPhase 1) (phases_keep runs (packed base job packages) packs (phases_of job.steps) (first_folder base packages job))
+      either (is_some (first_conflict [] (installed packages))) (FailedBuild DependsPhase 1)
+      (run_phases runs (packed base job packages) (phases_of job.steps) (first_folder base packages job))
+      (fails DependsPhase 1)
+      (phases_keep runs (packed base job packages) packs (phases_of job.steps) (first_folder base packages job))
 
 pub bake_is_outcome : (runs : Runs) (base : List FileItem) (job : JobView) (packages : List PackageView)
     → IsOutcomeOf base job packages (bake runs base job packages)
-bake_is_outcome runs base job packages = bake_keeps (IsOutcomeOf base job packages) (λ phase code. tt) runs base job packages (packed_is_outcome base job packages)
+bake_is_outcome runs base job packages =
+    bake_keeps (IsOutcomeOf base job packages) (λ phase code. tt) runs base job packages
+    (packed_is_outcome base job packages)
 
 pub bake_is_build : (tells : Bool) (runs : Runs) (base : List FileItem) (job : JobView) (packages : List PackageView)
     → IsBuildOf tells runs base job packages (bake runs base job packages)
@@ -60,11 +65,15 @@ bake_is_build tells runs base job packages = record { fields = bake_is_outcome r
 -- an outcome of a job's build has the job's fields
 pub outcome_of_job : (base : List FileItem) (job : JobView) (packages : List PackageView) (outcome : Outcome)
     → IsOutcomeOf base job packages outcome → IsOfJob job outcome
-outcome_of_job base job packages (MadePackage p) h = subst (HasFieldsOf job) (sym h.made) (package_has_fields base job packages p.files)
+outcome_of_job base job packages (MadePackage p) h =
+    subst (HasFieldsOf job) (sym h.made) (package_has_fields base job packages p.files)
 outcome_of_job base job packages (FailedBuild phase code) h = tt
 
 pub bakes_give_jobs : (runs : Runs) (plan : PlanView) → GivesJobs plan (bakes_by runs plan)
-bakes_give_jobs runs plan n packages l = outcome_of_job plan.base (job_at plan n) packages (bake runs plan.base (job_at plan n) packages) (bake_is_outcome runs plan.base (job_at plan n) packages)
+bakes_give_jobs runs plan n packages l =
+    let job : JobView = job_at plan n in
+    outcome_of_job plan.base job packages (bake runs plan.base job packages)
+    (bake_is_outcome runs plan.base job packages)
 
 pub dry_builds_give_jobs : (plan : PlanView) → GivesJobs plan (bakes_well plan)
 dry_builds_give_jobs plan n packages l = package_has_fields plan.base (job_at plan n) packages []
@@ -87,7 +96,8 @@ built_at bakes plan kept is n packages l k i are =
     (bakes n (filter_map (λ d. package_in (status_at bakes plan kept d)) (installs plan n))) k i are.good
     ∙ ap (λ ps. status_of_outcome (bakes n ps)) (sym are.those)
 
-pub right_builds_are_right : (tells : Bool) (runs : Runs) (plan : PlanView) (kept : KeptPackages) (n : ℕ) (packages : List PackageView) (outcome : Outcome)
+pub right_builds_are_right : (tells : Bool) (runs : Runs) (plan : PlanView) (kept : KeptPackages)
+    (n : ℕ) (packages : List PackageView) (outcome : Outcome)
     → IsPlan plan → n < count plan → is_kept kept n ≡ false → is_ignored plan n ≡ false
     → (IsTrue tells → AreInstalledAt plan (status_at (bakes_by runs plan) plan kept) n packages)
     → IsBuildOf tells runs plan.base (job_at plan n) packages outcome
@@ -108,13 +118,18 @@ module _ (bakes : Bakes) (plan : PlanView) (kept : KeptPackages) (s : ℕ → St
       → Contains (depends plan n) d → IsThere d
   there_below n d l good c = (target_below plan is n d l c, all_passes (λ m. is_good (s m)) (depends plan n) d good c)
 
+  all_there : (n : ℕ) → n < count plan → list_all (λ d. is_good (s d)) (depends plan n) ≡ true → (d : ℕ)
+      → Contains (installs plan n) d → IsThere d
+  all_there n l good d c =
+      installs_keep plan IsThere (λ m e h k. there_below m e h.0 (so_far.behind m h.0 h.1) k) n
+      (λ e k. there_below n e l good k) d c
+
   pub statuses_so_far_install : (n : ℕ) → n < count plan
       → list_all (λ d. is_good (s d)) (depends plan n) ≡ true
       → AreInstalledAt plan (status_at bakes plan kept) n (packages_at plan s n)
   statuses_so_far_install n l good = record {
     good = passes_all (λ d. is_good (status_at bakes plan kept d)) (depends plan n)
-        (λ d c. let there : IsThere d = there_below n d l good c in sym (ap is_good (so_far.right d there.0 there.1)) ∙ there.1);
+        (λ d c. let there = there_below n d l good c in sym (ap is_good (so_far.right d there.0 there.1)) ∙ there.1);
     those = filter_map_agree (λ d. package_in (s d)) (λ d. package_in (status_at bakes plan kept d)) (installs plan n)
-        (λ d c. let there : IsThere d = installs_keep plan IsThere (λ m e h k. there_below m e h.0 (so_far.behind m h.0 h.1) k) n (λ e k. there_below n e l good k) d c in
-        ap package_in (so_far.right d there.0 there.1));
+        (λ d c. let there = all_there n l good d c in ap package_in (so_far.right d there.0 there.1));
   }

@@ -4,7 +4,7 @@ use Rattle.std.specs.Prelude.{◌&&◌, filter, bytes_eq, Contains}
 use Rattle.std.specs.List.{list_any}
 use Rattle.std.proofs.lemmas.Bool.{and_parts, cases_lt}
 use Rattle.std.proofs.lemmas.Slice.Eq.{bytes_eq-Decides}
-use Rattle.bulk_base.proofs.Members.{Member, any_member, member_any, all_passes, passes_all, filter_into, filter_out_of, filter_whole}
+use Rattle.bulk_base.proofs.Members.{any_member, member_any, all_passes, passes_all, filter_into, filter_out_of, filter_whole}
 use Rattle.bulk_model.specs.declared.depend.Recorded.{Recorded}
 use Rattle.bulk_model.specs.Among.{AreInOrder, is_recorded_as}
 use Rattle.bulk_model.specs.Digests.{is_same}
@@ -30,7 +30,7 @@ pub record Meant (members : List PackageView) (depend : Recorded) : Type 0 where
 pub meant_in : (members : List PackageView) (p : PackageView) (depend : Recorded)
     → has_all members p ≡ true → Contains p.depends depend → Meant members depend
 meant_in members p depend h c =
-    let m : Member (is_recorded_as depend) members = any_member (is_recorded_as depend) members (all_passes (λ d. list_any (is_recorded_as d) members) p.depends depend h c) in
+    let m = any_member (is_recorded_as depend) members (all_passes (λ d. list_any (is_recorded_as d) members) p.depends depend h c) in
     record { one = m.one; is = m.is; meant = m.does }
 
 -- what has its dependencies among fewer has them among more
@@ -71,7 +71,7 @@ part_within members p h = within_after (length members) members p h
 
 pub part_closed : (members : List PackageView) → IsClosed (closed_part members)
 part_closed members p h =
-    let e : round (closed_part members) ≡ closed_part members = settled (length members) members (omega arith) in
+    let e = settled (length members) members (omega arith) in
     (filter_out_of (has_all (closed_part members)) (closed_part members) p (subst (λ ms. Contains ms p) (sym e) h)).1
 
 greatest_after : (rounds : ℕ) (members some : List PackageView) → IsWithin some members

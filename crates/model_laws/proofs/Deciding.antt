@@ -72,7 +72,9 @@ module _ (a : Bakes) (plan : PlanView) (kept : KeptPackages) (is : IsPlan plan) 
       unfolds ∙ tried_with (kept_at kept n) (is_ignored plan n) (good_at n) (a n (packages_at plan s n)) (sym (ap is_tried unfolds) ∙ t)
 
   -- builds that agree where nodes were built give the same results
-  module _ (b : Bakes) (agree : (n : ℕ) → n < count plan → is_tried (s n) ≡ true → a n (packages_at plan s n) ≡ b n (packages_at plan s n)) where
+  module _ (b : Bakes)
+      (agree : (n : ℕ) → n < count plan → is_tried (s n) ≡ true
+      → a n (packages_at plan s n) ≡ b n (packages_at plan s n)) where
     also_solves : Solves b plan kept s
     also_solves n l =
         let unfolds : s n ≡ status_from a plan kept s n = results_unfold a plan kept is n l in

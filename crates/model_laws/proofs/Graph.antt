@@ -4,7 +4,7 @@ use Rattle.std.specs.Prelude.{Contains, ◌&&◌, filter}
 use Rattle.std.specs.List.{All, list_any, list_all}
 use Rattle.std.proofs.lemmas.Bool.{and_parts, or_cases}
 use Rattle.std.proofs.lemmas.List.FromFn.{length-range_with_len}
-use Rattle.bulk_base.proofs.Members.{all_passes, passes_all, Member, any_member, has_contains, contains_has, contains_map, map_contains, Source, filter_out_of, filter_into, range_below, below_range}
+use Rattle.bulk_base.proofs.Members.{all_passes, passes_all, any_member, has_contains, contains_has, contains_map, map_contains, filter_out_of, filter_into, range_below, below_range}
 use Rattle.bulk_model.specs.PlanView.{PlanView, count, depends, away, nodes, edges_from}
 use Rattle.bulk_model.specs.PlanFacts.{IsPlan}
 use Rattle.bulk_model.specs.declared.plan.Edge.{Edge}
@@ -56,19 +56,21 @@ is_later edge = is_needed_later edge.kind
 pub later_depends_are : (plan : PlanView) (n d : ℕ) → Contains (later_depends plan n) d
     → Contains (depends plan n) d
 later_depends_are plan n d h =
-    let s : Source (λ (e : Edge). e.to) (filter is_later (edges_from plan n)) d = map_contains (λ (e : Edge). e.to) (filter is_later (edges_from plan n)) d h in
+    let s = map_contains (λ (e : Edge). e.to) (filter is_later (edges_from plan n)) d h in
     subst (λ m. Contains (depends plan n) m) s.gives (contains_map (λ (e : Edge). e.to) (edges_from plan n) s.one (filter_out_of is_later (edges_from plan n) s.one s.is).0)
 
 -- what each dependency keeps holds of all that is installed
-module _ (plan : PlanView) (P : ℕ → Type 0) (keeps : (m d : ℕ) → P m → Contains (depends plan m) d → P d) (n : ℕ) (first : (d : ℕ) → Contains (depends plan n) d → P d) where
+module _ (plan : PlanView) (P : ℕ → Type 0)
+    (keeps : (m d : ℕ) → P m → Contains (depends plan m) d → P d) (n : ℕ)
+    (first : (d : ℕ) → Contains (depends plan n) d → P d) where
   pub installed_keep : (rounds d : ℕ) → is_installed plan rounds n d ≡ true → P d
   installed_keep zero d h = first d (has_contains (depends plan n) d h)
   installed_keep (suc rounds) d h =
       elim (or_cases (is_installed plan rounds n d) (list_any (λ m. is_installed plan rounds n m && has (later_depends plan m) d) (nodes plan)) h) [
         | inl e ↦ installed_keep rounds d e
         | inr t ↦
-            (let by : Member (λ m. is_installed plan rounds n m && has (later_depends plan m) d) (nodes plan) = any_member (λ m. is_installed plan rounds n m && has (later_depends plan m) d) (nodes plan) t in
-            let both : (is_installed plan rounds n by.one ≡ true) × (has (later_depends plan by.one) d ≡ true) = and_parts (is_installed plan rounds n by.one) (has (later_depends plan by.one) d) by.does in
+            (let by = any_member (λ m. is_installed plan rounds n m && has (later_depends plan m) d) (nodes plan) t in
+            let both = and_parts (is_installed plan rounds n by.one) (has (later_depends plan by.one) d) by.does in
             keeps by.one d (installed_keep rounds by.one both.0) (later_depends_are plan by.one d (has_contains (later_depends plan by.one) d both.1)))
       ]
 

@@ -3,7 +3,7 @@ use Rattle.std.proofs.Common.{◌≡◌, ℕ, zero, suc, ◌≤◌, Bool, true, 
 use Rattle.std.specs.Prelude.{◌&&◌, filter, Contains}
 use Rattle.std.specs.List.{list_any}
 use Rattle.std.proofs.lemmas.Bool.{and_parts, and_from, or_cases, or_left, or_right, cases_lt}
-use Rattle.bulk_base.proofs.Members.{Member, any_member, member_any, filter_whole, filter_out_of, filter_same}
+use Rattle.bulk_base.proofs.Members.{any_member, member_any, filter_whole, filter_out_of, filter_same}
 use Rattle.bulk_model.specs.Grown.{grown}
 
 module _ {X : Type 0} (first : X → Bool) (leads : X → X → Bool) (members : List X) where
@@ -32,8 +32,8 @@ module _ {X : Type 0} (first : X → Bool) (leads : X → X → Bool) (members :
       elim (or_cases (at (suc rounds) x) (led (suc rounds) x) h) [
         | inl e ↦ e
         | inr t ↦
-            (let by : Member (λ m. at (suc rounds) m && leads m x) members = any_member (λ m. at (suc rounds) m && leads m x) members t in
-            let both : (at (suc rounds) by.one ≡ true) × (leads by.one x ≡ true) = and_parts (at (suc rounds) by.one) (leads by.one x) by.does in
+            (let by = any_member (λ m. at (suc rounds) m && leads m x) members t in
+            let both = and_parts (at (suc rounds) by.one) (leads by.one x) by.does in
             grown_adds rounds by.one x by.is (full by.one by.is both.0) both.1)
       ]
 

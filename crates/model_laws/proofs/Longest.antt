@@ -75,7 +75,10 @@ module _ (plan : PlanView) (is_plan : IsPlan plan) where
   below_case : (n m : ℕ) → has (depends plan m) n ≡ true → (m < count plan) ⊎ (count plan ≤ m)
       → m < count plan
   below_case n m h (inl l) = l
-  below_case n m h (inr past) = absurd (true≢false (sym h ∙ ap (λ edges. has (map (λ (e : Edge). e.to) edges) n) (get_or_past plan.edges m [] (let size : length plan.edges ≡ count plan = is_plan.edges in omega arith))))
+  below_case n m h (inr past) =
+      let size : length plan.edges ≡ count plan = is_plan.edges in
+      let none = get_or_past plan.edges m [] (omega arith) in
+      absurd (true≢false (sym h ∙ ap (λ edges. has (map (λ (e : Edge). e.to) edges) n) none))
 
   -- no chain of so many edges is longer
   longest : (edges n : ℕ) (above : List ℕ) → is_chain_above plan n above ≡ true
@@ -83,18 +86,22 @@ module _ (plan : PlanView) (is_plan : IsPlan plan) where
   longest edges n [] h l = omega arith
   longest zero n (m ∷ more) h l = absurd (let z : suc (length more) ≤ 0 = l in omega arith)
   longest (suc edges) n (m ∷ more) h l =
-      let both : (has (depends plan m) n ≡ true) × (is_chain_above plan m more ≡ true) = and_parts (has (depends plan m) n) (is_chain_above plan m more) h in
-      let rest : length more ≤ chain_above plan edges m = longest edges m more both.1 (let z : suc (length more) ≤ suc edges = l in omega arith) in
-      let at : step edges n m ≤ highest (step edges n) (count plan) = highest_at (step edges n) (count plan) m (below_case n m both.0 (cases_lt m (count plan))) in
-      let is : step edges n m ≡ suc (chain_above plan edges m) = ap (λ b. cond b (suc (chain_above plan edges m)) 0) both.0 in
+      let both = and_parts (has (depends plan m) n) (is_chain_above plan m more) h in
+      let rest = longest edges m more both.1 (let z : suc (length more) ≤ suc edges = l in omega arith) in
+      let at = highest_at (step edges n) (count plan) m (below_case n m both.0 (cases_lt m (count plan))) in
+      let is = ap (λ b. cond b (suc (chain_above plan edges m)) 0) both.0 in
       (let z : suc (length more) ≤ highest (step edges n) (count plan) = omega arith in z)
 
   few : (edges n : ℕ) → ((m : ℕ) → chain_above plan edges m ≤ edges)
       → (r : Reached (step edges n) (count plan)) → (b : Bool) → has (depends plan r.at) n ≡ b
-      → (highest (step edges n) (count plan) ≡ 0) ⊎ (cond b (suc (chain_above plan edges r.at)) 0 ≡ highest (step edges n) (count plan))
+      → (highest (step edges n) (count plan) ≡ 0)
+      ⊎ (cond b (suc (chain_above plan edges r.at)) 0 ≡ highest (step edges n) (count plan))
       → highest (step edges n) (count plan) ≤ suc edges
   few edges n below r b h (inl none) = omega arith
-  few edges n below r true h (inr e) = let l : chain_above plan edges r.at ≤ edges = below r.at in let z : suc (chain_above plan edges r.at) ≡ highest (step edges n) (count plan) = e in omega arith
+  few edges n below r true h (inr e) =
+      let l : chain_above plan edges r.at ≤ edges = below r.at in
+      let z : suc (chain_above plan edges r.at) ≡ highest (step edges n) (count plan) = e in
+      omega arith
   few edges n below r false h (inr e) = let z : 0 ≡ highest (step edges n) (count plan) = e in omega arith
 
   at_most : (edges n : ℕ) → chain_above plan edges n ≤ edges
@@ -108,7 +115,7 @@ module _ (plan : PlanView) (is_plan : IsPlan plan) where
   first_part zero n above h = refl
   first_part (suc k) n [] h = refl
   first_part (suc k) n (m ∷ more) h =
-      let both : (has (depends plan m) n ≡ true) × (is_chain_above plan m more ≡ true) = and_parts (has (depends plan m) n) (is_chain_above plan m more) h in
+      let both = and_parts (has (depends plan m) n) (is_chain_above plan m more) h in
       and_from (has (depends plan m) n) (is_chain_above plan m (take k more)) both.0 (first_part k m more both.1)
 
   pub nine_edges_are_enough : (n edges : ℕ) → IsLongest plan n edges
@@ -119,6 +126,6 @@ module _ (plan : PlanView) (is_plan : IsPlan plan) where
       let long : length c.above ≡ chain_above plan 9 n = c.long in
       let nine : chain_above plan 9 n ≤ 9 = at_most 9 n in
       let found : length l.found.0 ≡ edges = l.found.2 in
-      let size : length (take (min 9 edges) l.found.0) ≡ min 9 edges = length-take-le (min 9 edges) l.found.0 (omega arith) in
-      let least : length (take (min 9 edges) l.found.0) ≤ chain_above plan 9 n = longest 9 n (take (min 9 edges) l.found.0) (first_part (min 9 edges) n l.found.0 l.found.1) (omega arith) in
+      let size = length-take-le (min 9 edges) l.found.0 (omega arith) in
+      let least = longest 9 n (take (min 9 edges) l.found.0) (first_part (min 9 edges) n l.found.0 l.found.1) (omega arith) in
       omega arith

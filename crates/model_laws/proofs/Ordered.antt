@@ -83,7 +83,7 @@ same_order [] [] f g into back = refl
 same_order [] (q ∷ qs) f g into back = absurd (contains_none q (back q (contains_here q qs)))
 same_order (p ∷ ps) [] f g into back = absurd (contains_none p (into p (contains_here p ps)))
 same_order (p ∷ ps) (q ∷ qs) f g into back =
-    let e : p ≡ q = first_same p q ps qs f g (into p (contains_here p ps)) (back q (contains_here q qs)) in
+    let e = first_same p q ps qs f g (into p (contains_here p ps)) (back q (contains_here q qs)) in
     ap (λ z. z ∷ ps) e
     ∙ ap (λ zs. q ∷ zs) (same_order ps qs (rest_order p ps f) (rest_order q qs g) (rest_same p q ps qs f e into) (rest_same q p qs ps g (sym e) back))
 
@@ -238,7 +238,7 @@ module _ (members : List PackageView) (names : HasNames members) where
   placed_into done [] in_done in_ps r (inr c) = absurd (contains_none r c)
   placed_into done (p ∷ ps) in_done in_ps r at =
       let here : Contains members p = in_ps p (contains_here p ps) in
-      let into : Contains (p ∷ done) r → Contains (place p done) r = place_into p done r (λ q c e. one_place p q here (in_done q c) e) in
+      let into = place_into p done r (λ q c e. one_place p q here (in_done q c) e) in
       placed_into (place p done) ps (placed_within done p in_done here) (λ q c. in_ps q (contains_more p ps q c)) r
       (elim at [
         | inl c ↦ inl (into (contains_more p done r c))

@@ -4,7 +4,7 @@ use Rattle.std.proofs.Common.{◌≡◌, ℕ, zero, suc, Bool, true, List, lengt
 use Rattle.std.specs.Prelude.{◌&&◌, Contains}
 use Rattle.std.specs.List.{list_any}
 use Rattle.std.proofs.lemmas.Bool.{and_parts, or_cases}
-use Rattle.bulk_base.proofs.Members.{Member, any_member, member_any, filter_into, filter_out_of}
+use Rattle.bulk_base.proofs.Members.{any_member, member_any, filter_into, filter_out_of}
 use Rattle.bulk_model.specs.declared.depend.Recorded.{Recorded}
 use Rattle.bulk_model.specs.Among.{is_recorded_as, Installed, direct, later, AreInOrder, AreInstalls, is_depend, later_records, installs_among}
 use Rattle.bulk_model.specs.Bake.{Runs, bake}
@@ -27,14 +27,15 @@ module _ (all : List PackageView) (names : HasNames all) where
       let t : Meant some depend = meant_in some p depend (closed p c) d in
       subst (λ x. Contains some x) (names t.one q (within t.one t.is) m (sym (recorded_name depend t.one t.meant) ∙ recorded_name depend q r)) t.is
 
-  module _ (some other : List PackageView) (some_in : IsWithin some all) (other_in : IsWithin other all) (closed : IsClosed other) (p : PackageView) (here : Contains other p) where
+  module _ (some other : List PackageView) (some_in : IsWithin some all) (other_in : IsWithin other all)
+      (closed : IsClosed other) (p : PackageView) (here : Contains other p) where
     pub move : (q : PackageView) → Installed some p q → Contains other q × Installed other p q
     move q (direct depend c m r) =
-        let there : Contains other q = means other other_in closed p depend q here c (some_in q m) r in
+        let there = means other other_in closed p depend q here c (some_in q m) r in
         (there, direct depend c there r)
     move q (later {m = by} depend i c late m r) =
         let before : Contains other by × Installed other p by = move by i in
-        let there : Contains other q = means other other_in closed by depend q before.0 c (some_in q m) r in
+        let there = means other other_in closed by depend q before.0 c (some_in q m) r in
         (there, later depend before.1 c late there r)
 
   pub installs_move : (some other : List PackageView) → IsWithin some all → IsWithin other all
@@ -76,16 +77,16 @@ module _ (members : List PackageView) (p : PackageView) where
   only_installed : (rounds : ℕ) (q : PackageView) → Contains members q → among rounds q ≡ true
       → Installed members p q
   only_installed zero q c h =
-      let m : Member (λ depend. is_recorded_as depend q) p.depends = any_member (λ depend. is_recorded_as depend q) p.depends h in
+      let m = any_member (λ depend. is_recorded_as depend q) p.depends h in
       direct m.one m.is c m.does
   only_installed (suc rounds) q c h =
       elim (or_cases (among rounds q) (list_any (λ m. among rounds m && is_depend (later_records m) q) members) h) [
         | inl e ↦ only_installed rounds q c e
         | inr t ↦
-            (let by : Member (λ m. among rounds m && is_depend (later_records m) q) members = any_member (λ m. among rounds m && is_depend (later_records m) q) members t in
-            let both : (among rounds by.one ≡ true) × (is_depend (later_records by.one) q ≡ true) = and_parts (among rounds by.one) (is_depend (later_records by.one) q) by.does in
-            let m : Member (λ depend. is_recorded_as depend q) (later_records by.one) = any_member (λ depend. is_recorded_as depend q) (later_records by.one) both.1 in
-            let is : Contains by.one.depends m.one × (is_later m.one ≡ true) = filter_out_of is_later by.one.depends m.one m.is in
+            (let by = any_member (λ m. among rounds m && is_depend (later_records m) q) members t in
+            let both = and_parts (among rounds by.one) (is_depend (later_records by.one) q) by.does in
+            let m = any_member (λ depend. is_recorded_as depend q) (later_records by.one) both.1 in
+            let is = filter_out_of is_later by.one.depends m.one m.is in
             later m.one (only_installed rounds by.one by.is both.0) is.0 is.1 c m.does)
       ]
 
@@ -104,8 +105,10 @@ module _ (members : List PackageView) (p : PackageView) where
   pub rounds_install_all : AreInOrder members → AreInstalls members p (installs_among members p)
   rounds_install_all order = record {
     order = filter_order (among (length members)) members order;
-    only = λ q c. (let both : Contains members q × (among (length members) q ≡ true) = filter_out_of (among (length members)) members q c in only_installed (length members) q both.0 both.1);
-    all = λ q i. (let both : Contains members q × (among (length members) q ≡ true) = all_installed q i in filter_into (among (length members)) members q both.0 both.1);
+    only = λ q c. (let both = filter_out_of (among (length members)) members q c in
+        only_installed (length members) q both.0 both.1);
+    all = λ q i. (let both = all_installed q i in
+        filter_into (among (length members)) members q both.0 both.1);
   }
 
 -- ---- soundness
@@ -126,18 +129,27 @@ module _ (runs : Runs) (table : List Recipe) (members : List PackageView) (names
 
   pub by_rounds : IsSound runs table members → IsSoundByRounds runs table members
   by_rounds sound p c =
-      let made : IsMade runs table part p = sound part part_in (part_closed (by_node members)) p c in
+      let made = sound part part_in (part_closed (by_node members)) p c in
+      let rounds = rounds_install_all part p part_is_in_order in
+      let same = one_list part p (installs_among part p) made.packages rounds made.installed in
       record {
         recipe = made.recipe;
         stands = made.stands;
         digest = made.digest;
-        made = ap (bake runs made.recipe.base made.recipe.job) (one_list part p (installs_among part p) made.packages (rounds_install_all part p part_is_in_order) made.installed) ∙ made.made;
+        made = ap (bake runs made.recipe.base made.recipe.job) same ∙ made.made;
       }
 
   pub from_rounds : IsSoundByRounds runs table members → IsSound runs table members
   from_rounds sound some within closed p c =
       let greatest : IsGreatestClosed (by_node members) part = part_is_greatest (by_node members) in
-      let there : IsWithin some part = greatest.greatest some (λ q d. by_node_into members names q (within q d)) closed in
+      let there = greatest.greatest some (λ q d. by_node_into members names q (within q d)) closed in
       let made : IsMadeAmong runs table part p = sound p (there p c) in
-      made_moves members names runs table part some part_in within (part_closed (by_node members)) closed p (there p c) c
-      (record { recipe = made.recipe; stands = made.stands; digest = made.digest; packages = installs_among part p; installed = rounds_install_all part p part_is_in_order; made = made.made })
+      made_moves members names runs table part some part_in within (part_closed (by_node members)) closed
+      p (there p c) c (record {
+        recipe = made.recipe;
+        stands = made.stands;
+        digest = made.digest;
+        packages = installs_among part p;
+        installed = rounds_install_all part p part_is_in_order;
+        made = made.made;
+      })

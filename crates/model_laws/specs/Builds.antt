@@ -30,14 +30,15 @@ BuiltHaveFields =
     → n < count plan → status_in (statuses_of bakes plan kept) n ≡ Built p
     → HasFieldsOf (job_at plan n) p
 
--- such are builds where rooms tell, builds that are taken to succeed, and outcomes that are given
--- and have these fields
+-- such are builds where rooms tell
 abbrev pub BakesGiveJobs : Type 0
 BakesGiveJobs = (runs : Runs) (plan : PlanView) → GivesJobs plan (bakes_by runs plan)
 
+-- and builds that are taken to succeed
 abbrev pub DryBuildsGiveJobs : Type 0
 DryBuildsGiveJobs = (plan : PlanView) → GivesJobs plan (bakes_well plan)
 
+-- and outcomes that are given in place of builds, and have these fields
 abbrev pub OutcomesGiveJobs : Type 0
 OutcomesGiveJobs =
     (outcomes : List (Option Outcome)) (plan : PlanView)

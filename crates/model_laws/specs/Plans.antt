@@ -16,10 +16,11 @@ InstalledAll =
     (plan : PlanView) (p : ℕ → Bool) → ((m : ℕ) → p m ≡ true → list_all p (depends plan m) ≡ true)
     → (n : ℕ) → list_all p (depends plan n) ≡ true → list_all p (installs plan n) ≡ true
 
--- just nodes are installed, all of a node's dependencies among them
+-- just nodes are installed
 abbrev pub InstalledAreNodes : Type 0
 InstalledAreNodes = (plan : PlanView) (n d : ℕ) → Contains (installs plan n) d → d < count plan
 
+-- all of a node's dependencies are installed for it
 abbrev pub DependsAreInstalled : Type 0
 DependsAreInstalled =
     (plan : PlanView) → IsPlan plan → (n d : ℕ) → n < count plan → Contains (depends plan n) d
