@@ -56,11 +56,14 @@ IsSound runs table members =
 
 -- ---- the same by rounds: members are put in order, and those that lack a recorded dependency taken away until none does
 
+-- a package in its place among others, where that is not taken yet
 abbrev pub place : PackageView → List PackageView → List PackageView
 place p [] = p ∷ []
-place p (q ∷ packages) = if is_lt (package_cmp p q) then p ∷ q ∷ packages else q ∷ place p packages
+place p (q ∷ packages) =
+    if is_lt (package_cmp p q) then p ∷ q ∷ packages
+    else (if is_lt (package_cmp q p) then q ∷ place p packages else q ∷ packages)
 
--- by node, then name
+-- by node, then name, each once
 abbrev pub by_node : List PackageView → List PackageView
 by_node packages = fold (λ placed p. place p placed) [] packages
 

@@ -1,0 +1,11 @@
+pub mod Graph
+pub mod Growing
+pub mod Following
+pub mod Deciding
+pub mod Fitted
+pub mod Building
+pub mod Blaming
+pub mod Longest
+pub mod Ordered
+pub mod Closing
+pub mod Rounds

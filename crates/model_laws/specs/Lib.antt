@@ -1,0 +1,4 @@
+pub mod Plans
+pub mod Results
+pub mod Builds
+pub mod Soundness
