@@ -1,0 +1,136 @@
+// A command line read whole.
+ghost use Rattle.std.specs.Prelude.{◌≡◌, OnOk, IfOk};
+ghost use Rattle.clap.specs.Walk.{texts};
+ghost use Rattle.command_words.specs.Asked as asked;
+ghost use Rattle.command_words.specs.Texts.{HaveTextBytes};
+
+use crate::asked::{Asked, CommandName};
+use crate::description::{Flags, read_matches};
+use crate::matches::asked_in;
+use bulk_base::{NoMemory, Text, number};
+use std::alloc::Global;
+
+/// Words as clap takes them.
+fn strings_of<'a>(alloc: Global, words: &'a [Text]) -> Result<Vec<&'a str>, NoMemory>
+    ensures same { IfOk result (λ strings. texts strings.items ≡ words.entry.now) }
+    ensures form { OnOk result (HaveTextBytes words.entry.now) }
+{
+    let mut strings = Vec::new(alloc);
+    for word in words {
+        strings.push(word.as_str())?;
+    }
+    Ok(strings)
+}
+
+fn usage_of(flags: Flags) -> Asked
+    ensures { result ≡ Asked.Usage (asked.name_of flags) }
+{
+    let command = match flags {
+        Flags::OfBulk => CommandName::Bulk,
+        Flags::OfPkgclean => CommandName::PkgClean,
+    };
+    Asked::Usage { command }
+}
+
+/// What a command with flags asks for, by all its words.
+fn asked_by_flags(alloc: Global, flags: Flags, words: &[Text]) -> Result<Asked, NoMemory>
+    ensures { IfOk result (λ found. found ≡ asked.asked_by_flags flags words.now) }
+{
+    let strings = strings_of(alloc, words)?;
+    match read_matches(alloc, flags, strings.as_slice())? {
+        Some(matches) => asked_in(alloc, flags, &matches),
+        None => Ok(usage_of(flags)),
+    }
+}
+
+fn sample_asked(rest: &[Text]) -> Asked
+    ensures { result ≡ asked.sample_asked rest.now }
+{
+    if let [word] = rest {
+        if let Some(number) = number(word) {
+            return Asked::Sample { number };
+        }
+    }
+    Asked::Usage {
+        command: CommandName::Bulk,
+    }
+}
+
+fn testport_asked(alloc: Global, rest: &[Text]) -> Result<Asked, NoMemory>
+    ensures { IfOk result (λ found. found ≡ asked.testport_asked rest.now) }
+{
+    match rest {
+        [word] if !word.bytes().ends_with(b"@all") => Ok(Asked::TestPort {
+            word: word.copy(alloc)?,
+        }),
+        _ => Ok(Asked::Usage {
+            command: CommandName::TestPort,
+        }),
+    }
+}
+
+fn distclean_asked(rest: &[Text]) -> Asked
+    ensures { result ≡ asked.distclean_asked rest.now }
+{
+    match rest {
+        [] => Asked::DistClean { dry_run: false },
+        [word] if word.is(b"-n") => Asked::DistClean { dry_run: true },
+        _ => Asked::Usage {
+            command: CommandName::DistClean,
+        },
+    }
+}
+
+fn publish_asked(rest: &[Text]) -> Asked
+    ensures { result ≡ asked.publish_asked rest.now }
+{
+    if rest.is_empty() {
+        Asked::Publish
+    } else {
+        Asked::Usage {
+            command: CommandName::Publish,
+        }
+    }
+}
+
+/// What the words behind the program's name ask for, every command line read whole (poudriere-bulk(8),
+/// poudriere-pkgclean(8); docs/FORMATS.md, "The words of a command").
+///
+/// The first word chooses the command. `bulk` and `pkgclean` are read by clap as one simple command with short flags. Usage
+/// of `bulk` comes exactly where there is no word or none that is a command, where clap's reading of `bulk` has a fault,
+/// where the value of `-J` is no number, where `-a` stands beside `-f` or an origin, where none of these three is there, and
+/// where `sample` has not just one number behind it. `pkgclean` has its own usage under the same rules without `-J`;
+/// `testport` where there is not just one word, or one that ends in `@all`; `distclean` where there is more than one `-n`;
+/// `publish` where there is any word. NoMemory for want of memory alone.
+///
+/// Each word is looked at a fixed number of times for each flag, and copied at most twice.
+pub fn read_words(alloc: Global, words: &[Text]) -> Result<Asked, NoMemory>
+    ensures { IfOk result (λ found. found ≡ asked.asked_of words.now) }
+{
+    let [command, rest @ ..] = words else {
+        return Ok(Asked::Usage {
+            command: CommandName::Bulk,
+        });
+    };
+    if command.is(b"bulk") {
+        return asked_by_flags(alloc, Flags::OfBulk, words);
+    }
+    if command.is(b"pkgclean") {
+        return asked_by_flags(alloc, Flags::OfPkgclean, words);
+    }
+    if command.is(b"sample") {
+        return Ok(sample_asked(rest));
+    }
+    if command.is(b"testport") {
+        return testport_asked(alloc, rest);
+    }
+    if command.is(b"distclean") {
+        return Ok(distclean_asked(rest));
+    }
+    if command.is(b"publish") {
+        return Ok(publish_asked(rest));
+    }
+    Ok(Asked::Usage {
+        command: CommandName::Bulk,
+    })
+}
