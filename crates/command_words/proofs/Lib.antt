@@ -1,2 +1,4 @@
+pub mod Read
 pub mod Simple
 pub mod TextRows
+pub mod Values

@@ -1,18 +1,17 @@
 -- The values of every match are pieces of the words, or clap's own for flags: so where the words are texts, they have the
 -- bytes of texts. Shown along clap's walk over the words, for any rules whose own values have such bytes.
-use Rattle.std.proofs.Common.{◌≡◌, ◌<◌, ◌==◌, ℕ, zero, suc, Bool, true, false, cond, List, [], ◌∷◌, ◌++◌, drop, fold, Option, Some, None, refl, subst, codes}
-use Rattle.std.specs.Prelude.{IsTrue, length, slice_get, unwrap_or, option_and_then, option_map, encode_utf8, find, ◌&&◌}
+use Rattle.std.proofs.Common.{◌≡◌, ◌==◌, ℕ, zero, suc, Bool, true, false, cond, List, [], ◌∷◌, ◌++◌, drop, fold, Option, Some, None, refl, subst, codes}
+use Rattle.std.specs.Prelude.{IsTrue, length, slice_get, option_and_then, option_map, encode_utf8, find, ◌&&◌}
 use Rattle.std.specs.List.{AllByRecursion, after_first}
 use Rattle.std.specs.Option.{option_map_or}
 use Rattle.std.specs.Str.{bytes_eq, chars}
 use Rattle.clap.specs.Lexer.{strip_byte, long_of, long_of_rest, short_of, short_of_rest, has_byte, name_and_value}
-use Rattle.clap.specs.Matches.{count_text}
-use Rattle.clap.specs.Walk.{Held, Names, Outcome, Row, Rule, Step, Text, Waiting, Walk, done, waits, plain, refused, idle, option, positional, next, trailing, subcommand, value, action_of, after_flag, after_step, all_of, answers_to, arg_by_id, arg_by_index, arg_by_long, arg_by_short, at_row, attached_value, bundle, bundle_met, bundle_step, counted, default_rows, finished, first_of, flag_met, has_row, is_pending, long_met, long_or_other, long_word, more_values, new_count, nonempty, nothing_held, option_met, option_word, pending_count, plain_word, positional_held, pushed, reacted, reading_by, rows_after, settled, settled_rows, short_met, short_or_plain, short_word, started, subcommand_met, subcommand_or_other, takes_several, takes_values, to_positional, used, used_as, used_by_id, values_or_missing, walk, walk_from, walked, walked_from, with_count, with_default, with_values, without, word_met}
+use Rattle.clap.specs.Walk.{Held, Names, Outcome, Row, Rule, Step, Text, Waiting, Walk, done, waits, plain, refused, idle, option, positional, next, trailing, subcommand, value, action_of, after_flag, after_step, all_of, arg_by_id, arg_by_index, arg_by_long, arg_by_short, at_row, attached_value, bundle, bundle_met, bundle_step, default_rows, first_of, flag_met, has_row, is_pending, long_met, long_or_other, more_values, nothing_held, option_met, option_word, plain_word, positional_held, pushed, reacted, reading_by, rows_after, settled, settled_rows, short_met, short_or_plain, started, subcommand_met, subcommand_or_other, takes_several, takes_values, to_positional, used, used_as, used_by_id, values_or_missing, walk, walk_from, walked, walked_from, with_default, with_values, without, word_met}
 use Rattle.clap.specs.declared.builder.action.ArgAction.{ArgAction}
 use Rattle.clap.specs.declared.builder.action.ArgAction.TheVariants.{Set, Append, SetTrue, SetFalse, Count}
 use Rattle.clap.specs.declared.builder.value_parser.Reading.{Reading}
 use Rattle.clap.specs.declared.parser.matches.ValueSource.{ValueSource}
-use Rattle.clap.specs.Simple.{built, matches_of}
+use Rattle.clap.specs.Simple.{built, matches_of, names_of}
 use Rattle.bulk_base.specs.Text.{has_text_bytes, is_text_byte}
 use Rattle.command_words.specs.declared.description.Flags.{Flags}
 use Rattle.command_words.specs.declared.description.Flags.TheVariants.{OfBulk, OfPkgclean}
@@ -91,11 +90,11 @@ rows_append (r ∷ rs) b p q = (p.0, rows_append rs b p.1 q)
 
 found_fine : (passes : Rule → Bool) (rules : List Rule) → RulesFine rules → FoundFine (find passes rules)
 found_fine passes [] h = tt
-found_fine passes (a ∷ rest) h = go (passes a)
+found_fine passes (a ∷ rest) h = go (passes a) (found_fine passes rest h.1)
   where
-    go : (b : Bool) → FoundFine (cond b (Some a) (find passes rest))
-    go true = h.0
-    go false = found_fine passes rest h.1
+    go : (b : Bool) → FoundFine (find passes rest) → FoundFine (cond b (Some a) (find passes rest))
+    go true behind = h.0
+    go false behind = behind
 
 -- ---- the rows
 
@@ -103,11 +102,13 @@ at_row_fine : (id : Text) (change : Row → List Row) (missing rows : List Row)
     → ((r : Row) → HaveTextBytes r.values → RowsHaveTextBytes (change r)) → RowsHaveTextBytes missing → RowsHaveTextBytes rows
     → RowsHaveTextBytes (at_row id change missing rows)
 at_row_fine id change missing [] changed there h = there
-at_row_fine id change missing (r ∷ rs) changed there h = go (bytes_eq r.id id)
+at_row_fine id change missing (r ∷ rs) changed there h =
+    go (bytes_eq r.id id) (at_row_fine id change missing rs changed there h.1)
   where
-    go : (b : Bool) → RowsHaveTextBytes (cond b (change r ++ rs) (r ∷ at_row id change missing rs))
-    go true = rows_append (change r) rs (changed r h.0) h.1
-    go false = (h.0, at_row_fine id change missing rs changed there h.1)
+    go : (b : Bool) → RowsHaveTextBytes (at_row id change missing rs)
+        → RowsHaveTextBytes (cond b (change r ++ rs) (r ∷ at_row id change missing rs))
+    go true behind = rows_append (change r) rs (changed r h.0) h.1
+    go false behind = (h.0, behind)
 
 with_values_fine : (id : Text) (how : Reading) (s : ValueSource) (values : List Text) (rows : List Row)
     → HaveTextBytes values → RowsHaveTextBytes rows → RowsHaveTextBytes (with_values id how s values rows)
@@ -372,8 +373,10 @@ behind_fine [] t = tt
 behind_fine (word ∷ rest) t = t.1
 
 pub matches_have_text_bytes : (flags : Flags) (words : List Text) → HaveTextBytes words → RowsHaveTextBytes (matches_of (description flags) words)
-matches_have_text_bytes OfBulk words t = rows_after_fine _ _ (drop 1 words) (rules_fine OfBulk) (behind_fine words t)
-matches_have_text_bytes OfPkgclean words t = rows_after_fine _ _ (drop 1 words) (rules_fine OfPkgclean) (behind_fine words t)
+matches_have_text_bytes OfBulk words t =
+    rows_after_fine (built (description OfBulk)).top.rules (names_of (built (description OfBulk))) (drop 1 words) (rules_fine OfBulk) (behind_fine words t)
+matches_have_text_bytes OfPkgclean words t =
+    rows_after_fine (built (description OfPkgclean)).top.rules (names_of (built (description OfPkgclean))) (drop 1 words) (rules_fine OfPkgclean) (behind_fine words t)
 
 -- ---- one option's value, and the origins
 
@@ -383,11 +386,11 @@ RowFine (Some r) = HaveTextBytes r.values
 
 row_fine : (passes : Row → Bool) (rows : List Row) → RowsHaveTextBytes rows → RowFine (find passes rows)
 row_fine passes [] h = tt
-row_fine passes (r ∷ rest) h = go (passes r)
+row_fine passes (r ∷ rest) h = go (passes r) (row_fine passes rest h.1)
   where
-    go : (b : Bool) → RowFine (cond b (Some r) (find passes rest))
-    go true = h.0
-    go false = row_fine passes rest h.1
+    go : (b : Bool) → RowFine (find passes rest) → RowFine (cond b (Some r) (find passes rest))
+    go true behind = h.0
+    go false behind = behind
 
 abbrev first_in : Option Row → Option Text
 first_in = option_and_then (λ r. slice_get r.values 0)

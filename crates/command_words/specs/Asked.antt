@@ -11,7 +11,6 @@ use Rattle.command_words.specs.declared.description.Flags.{Flags}
 use Rattle.command_words.specs.declared.description.Flags.TheVariants.{OfBulk, OfPkgclean}
 use Rattle.command_words.specs.declared.asked.Asked.{Asked}
 use Rattle.command_words.specs.declared.asked.Asked.TheVariants as asked
-use Rattle.command_words.specs.declared.asked.BulkWords.{BulkWords}
 use Rattle.command_words.specs.declared.asked.Clean.{Clean}
 use Rattle.command_words.specs.declared.asked.Clean.TheVariants as clean
 use Rattle.command_words.specs.declared.asked.CommandName.{CommandName}

@@ -7,7 +7,7 @@ use Rattle.clap.specs.Simple.{App, matches_of}
 use Rattle.clap.specs.Faults.{fault_of}
 
 -- clap's own matches of words, of which the first is not looked at; nothing where clap's own reading has a fault
-abbrev pub read_by : App → List Text → Option (List Row)
+unfoldable pub read_by : App → List Text → Option (List Row)
 read_by app words = if is_empty (fault_of app words) then Some (matches_of app words) else None
 
 -- a flag stands in the words: clap gives it the value `true`

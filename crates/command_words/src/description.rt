@@ -1,5 +1,5 @@
 // The description by which clap reads flags, and clap's reading of words by it.
-ghost use Rattle.std.specs.Prelude.{◌≡◌, ◌≢◌, map, fold, option_map, IfOk, OnOk, IfSome};
+ghost use Rattle.std.specs.Prelude.{◌≡◌, ◌≢◌, None, false, map, fold, option_map, IfOk, OnOk, IfSome};
 ghost use Rattle.clap.specs.Words.{app_of, found_of, kind_of, rows_of, rule_of, with_rule};
 ghost use Rattle.clap.specs.Walk.{texts};
 ghost use Rattle.clap.specs.declared.error.kind.ErrorKind.TheVariants.{OutOfMemory};
@@ -111,7 +111,7 @@ pub(crate) fn read_matches<'a>(
     flags: Flags,
     words: &'a [&'a str],
 ) -> Result<Option<ArgMatches<'a>>, NoMemory>
-    requires { HaveTextBytes (texts words.entry.now) }
+    requires { HaveTextBytes (texts words.now) }
     ensures rows { IfOk result (λ read. option_map (λ m. rows_of (found_of m)) read
         ≡ read_by (described flags) (texts words.entry.now)) }
     ensures form { IfOk result (λ read. IfSome read (λ m.
