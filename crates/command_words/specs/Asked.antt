@@ -59,11 +59,11 @@ bulk_in rows =
     then option_map_or (bulk_with rows) (builders_by (first_of (codes "builders") rows)) (asked.Usage name.Bulk)
     else asked.Usage name.Bulk
 
+abbrev pub pkgclean_with : List Row → Asked
+pkgclean_with rows = asked.PkgClean (record { ports = ports_in rows; dry_run = has_flag (codes "dry_run") rows })
+
 abbrev pub pkgclean_in : List Row → Asked
-pkgclean_in rows =
-    if are_fit (ports_in rows)
-    then asked.PkgClean (record { ports = ports_in rows; dry_run = has_flag (codes "dry_run") rows })
-    else asked.Usage name.PkgClean
+pkgclean_in rows = if are_fit (ports_in rows) then pkgclean_with rows else asked.Usage name.PkgClean
 
 abbrev pub asked_in : Flags → List Row → Asked
 asked_in OfBulk rows = bulk_in rows
@@ -102,17 +102,23 @@ publish_asked _ = asked.Usage name.Publish
 
 -- ---- every command line
 
--- the first word chooses the command
-abbrev pub asked_behind : Text → List Text → Asked
-asked_behind command rest =
-    if bytes_eq command (codes "bulk") then asked_by_flags OfBulk (command ∷ rest)
-    else (if bytes_eq command (codes "pkgclean") then asked_by_flags OfPkgclean (command ∷ rest)
-    else (if bytes_eq command (codes "sample") then sample_asked rest
+-- the commands whose words are read by flags
+abbrev pub flags_of : Text → Option Flags
+flags_of command =
+    if bytes_eq command (codes "bulk") then Some OfBulk
+    else (if bytes_eq command (codes "pkgclean") then Some OfPkgclean else None)
+
+-- the other commands; usage of `bulk` where the first word is none
+abbrev pub asked_by_words : Text → List Text → Asked
+asked_by_words command rest =
+    if bytes_eq command (codes "sample") then sample_asked rest
     else (if bytes_eq command (codes "testport") then testport_asked rest
     else (if bytes_eq command (codes "distclean") then distclean_asked rest
     else (if bytes_eq command (codes "publish") then publish_asked rest
-    else asked.Usage name.Bulk)))))
+    else asked.Usage name.Bulk)))
 
+-- the first word chooses the command
 abbrev pub asked_of : List Text → Asked
 asked_of [] = asked.Usage name.Bulk
-asked_of (command ∷ rest) = asked_behind command rest
+asked_of (command ∷ rest) =
+    option_map_or (λ flags. asked_by_flags flags (command ∷ rest)) (flags_of command) (asked_by_words command rest)

@@ -3,3 +3,4 @@ pub mod Reading
 pub mod Asked
 pub mod Usage
 pub mod Texts
+pub mod Refused

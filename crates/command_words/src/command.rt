@@ -2,6 +2,7 @@
 ghost use Rattle.std.specs.Prelude.{◌≡◌, OnOk, IfOk};
 ghost use Rattle.clap.specs.Walk.{texts};
 ghost use Rattle.command_words.specs.Asked as asked;
+ghost use Rattle.command_words.specs.Refused.{HasUsageWhereRefused};
 ghost use Rattle.command_words.specs.Texts.{HaveTextBytes};
 
 use crate::asked::{Asked, CommandName};
@@ -93,6 +94,38 @@ fn publish_asked(rest: &[Text]) -> Asked
     }
 }
 
+/// Whose flags a command's words are read by, if they are.
+fn flags_of(command: &Text) -> Option<Flags>
+    ensures { result ≡ asked.flags_of command.now }
+{
+    if command.is(b"bulk") {
+        Some(Flags::OfBulk)
+    } else if command.is(b"pkgclean") {
+        Some(Flags::OfPkgclean)
+    } else {
+        None
+    }
+}
+
+/// What another command asks for, by its name and the words behind it.
+fn asked_by_words(alloc: Global, command: &Text, rest: &[Text]) -> Result<Asked, NoMemory>
+    ensures { IfOk result (λ found. found ≡ asked.asked_by_words command.now rest.now) }
+{
+    if command.is(b"sample") {
+        Ok(sample_asked(rest))
+    } else if command.is(b"testport") {
+        testport_asked(alloc, rest)
+    } else if command.is(b"distclean") {
+        Ok(distclean_asked(rest))
+    } else if command.is(b"publish") {
+        Ok(publish_asked(rest))
+    } else {
+        Ok(Asked::Usage {
+            command: CommandName::Bulk,
+        })
+    }
+}
+
 /// What the words behind the program's name ask for, every command line read whole (poudriere-bulk(8),
 /// poudriere-pkgclean(8); docs/FORMATS.md, "The words of a command").
 ///
@@ -105,32 +138,18 @@ fn publish_asked(rest: &[Text]) -> Asked
 ///
 /// Each word is looked at a fixed number of times for each flag, and copied at most twice.
 pub fn read_words(alloc: Global, words: &[Text]) -> Result<Asked, NoMemory>
-    ensures { IfOk result (λ found. found ≡ asked.asked_of words.now) }
+    // What the words ask for, exactly.
+    ensures asked { IfOk result (λ found. found ≡ asked.asked_of words.now) }
+    // When `bulk` and `pkgclean` are answered by usage, rule by rule.
+    ensures usage { IfOk result (HasUsageWhereRefused words.now) }
 {
     let [command, rest @ ..] = words else {
         return Ok(Asked::Usage {
             command: CommandName::Bulk,
         });
     };
-    if command.is(b"bulk") {
-        return asked_by_flags(alloc, Flags::OfBulk, words);
+    match flags_of(command) {
+        Some(flags) => asked_by_flags(alloc, flags, words),
+        None => asked_by_words(alloc, command, rest),
     }
-    if command.is(b"pkgclean") {
-        return asked_by_flags(alloc, Flags::OfPkgclean, words);
-    }
-    if command.is(b"sample") {
-        return Ok(sample_asked(rest));
-    }
-    if command.is(b"testport") {
-        return testport_asked(alloc, rest);
-    }
-    if command.is(b"distclean") {
-        return Ok(distclean_asked(rest));
-    }
-    if command.is(b"publish") {
-        return Ok(publish_asked(rest));
-    }
-    Ok(Asked::Usage {
-        command: CommandName::Bulk,
-    })
 }
