@@ -8,7 +8,7 @@ use Rattle.clap.specs.Walk.{Text, texts}
 use Rattle.clap.specs.declared.parser.matches.Found.{Found}
 use Rattle.clap.proofs.WalkLemmas.{first_value-rows, raw_values-rows}
 use Rattle.bulk_base.specs.Text.{has_text_bytes}
-use Rattle.command_words.specs.Reading.{has_flag, origins_in}
+use Rattle.command_words.specs.Reading.{has_flag, origins_of}
 use Rattle.command_words.specs.Texts.{HaveTextBytes, RowsHaveTextBytes}
 use Rattle.command_words.proofs.TextRows.{value_has_text_bytes, values_have_text_bytes}
 
@@ -24,7 +24,7 @@ pub all_by_rows : (f : Found) (id : Text) (values : Option (List Text)) → valu
 all_by_rows f id values is = is ∙ raw_values-rows f id
 
 pub origins_by_rows : (f : Found) (values : Option (List Text)) → values ≡ option_map raw_values (matched_of f (codes "origins"))
-    → unwrap_or values [] ≡ origins_in (rows_of f)
+    → unwrap_or values [] ≡ origins_of (rows_of f)
 origins_by_rows f values is = ap (λ v. unwrap_or v []) (all_by_rows f (codes "origins") values is)
 
 pub value_is_text : (f : Found) (id value : Text) → RowsHaveTextBytes (rows_of f) → Some value ≡ first_value f id → IsTrue (has_text_bytes value)

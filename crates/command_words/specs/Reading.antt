@@ -15,5 +15,5 @@ abbrev pub has_flag : Text → List Row → Bool
 has_flag id rows = option_map_or (λ value. bytes_eq value (codes "true")) (first_of id rows) false
 
 -- the words that are no flag, no option and no value of one
-abbrev pub origins_in : List Row → List Text
-origins_in rows = unwrap_or (all_of (codes "origins") rows) []
+abbrev pub origins_of : List Row → List Text
+origins_of rows = unwrap_or (all_of (codes "origins") rows) []

@@ -6,7 +6,7 @@ use Rattle.clap.specs.Simple.{matches_of}
 use Rattle.clap.specs.Faults.{fault_of}
 use Rattle.bulk_base.specs.Number.{number_of}
 use Rattle.command_words.specs.Description.{description}
-use Rattle.command_words.specs.Asked.{flags_of, name_of, ports_in}
+use Rattle.command_words.specs.Asked.{flags_of, name_of, ports_of}
 use Rattle.command_words.specs.declared.description.Flags.{Flags}
 use Rattle.command_words.specs.declared.description.Flags.TheVariants.{OfBulk, OfPkgclean}
 use Rattle.command_words.specs.declared.asked.Asked.{Asked}
@@ -32,8 +32,9 @@ NamesNone ports = (ports.all ≡ false) × (ports.list ≡ None) × (ports.origi
 
 -- clap's matches break a rule that clap does not have
 abbrev pub BreaksARule : Flags → List Row → Type 0
-BreaksARule OfBulk rows = IsNoNumber (first_of (codes "builders") rows) ⊎ (IsAllBeside (ports_in rows) ⊎ NamesNone (ports_in rows))
-BreaksARule OfPkgclean rows = IsAllBeside (ports_in rows) ⊎ NamesNone (ports_in rows)
+BreaksARule OfBulk rows =
+    IsNoNumber (first_of (codes "builders") rows) ⊎ (IsAllBeside (ports_of rows) ⊎ NamesNone (ports_of rows))
+BreaksARule OfPkgclean rows = IsAllBeside (ports_of rows) ⊎ NamesNone (ports_of rows)
 
 abbrev pub IsRefused : Flags → List Text → Type 0
 IsRefused flags words = IsFaulty flags words ⊎ BreaksARule flags (matches_of (description flags) words)

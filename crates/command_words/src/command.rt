@@ -6,8 +6,8 @@ ghost use Rattle.command_words.specs.Refused.{HasUsageWhereRefused};
 ghost use Rattle.command_words.specs.Texts.{HaveTextBytes};
 
 use crate::asked::{Asked, CommandName};
-use crate::description::{Flags, read_matches};
-use crate::matches::asked_in;
+use crate::description::{Flags, match_words};
+use crate::matches::read_matches;
 use bulk_base::{NoMemory, Text, number};
 use std::alloc::Global;
 
@@ -23,7 +23,7 @@ fn strings_of<'a>(alloc: Global, words: &'a [Text]) -> Result<Vec<&'a str>, NoMe
     Ok(strings)
 }
 
-fn usage_of(flags: Flags) -> Asked
+fn usage_for(flags: Flags) -> Asked
     ensures { result ≡ Asked.Usage (asked.name_of flags) }
 {
     let command = match flags {
@@ -34,17 +34,17 @@ fn usage_of(flags: Flags) -> Asked
 }
 
 /// What a command with flags asks for, by all its words.
-fn asked_by_flags(alloc: Global, flags: Flags, words: &[Text]) -> Result<Asked, NoMemory>
-    ensures { IfOk result (λ found. found ≡ asked.asked_by_flags flags words.now) }
+fn read_flags(alloc: Global, flags: Flags, words: &[Text]) -> Result<Asked, NoMemory>
+    ensures { IfOk result (λ found. found ≡ asked.flags_asked flags words.now) }
 {
     let strings = strings_of(alloc, words)?;
-    match read_matches(alloc, flags, strings.as_slice())? {
-        Some(matches) => asked_in(alloc, flags, &matches),
-        None => Ok(usage_of(flags)),
+    match match_words(alloc, flags, strings.as_slice())? {
+        Some(matches) => read_matches(alloc, flags, &matches),
+        None => Ok(usage_for(flags)),
     }
 }
 
-fn sample_asked(rest: &[Text]) -> Asked
+fn read_sample(rest: &[Text]) -> Asked
     ensures { result ≡ asked.sample_asked rest.now }
 {
     if let [word] = rest {
@@ -57,7 +57,7 @@ fn sample_asked(rest: &[Text]) -> Asked
     }
 }
 
-fn testport_asked(alloc: Global, rest: &[Text]) -> Result<Asked, NoMemory>
+fn read_testport(alloc: Global, rest: &[Text]) -> Result<Asked, NoMemory>
     ensures { IfOk result (λ found. found ≡ asked.testport_asked rest.now) }
 {
     match rest {
@@ -70,7 +70,7 @@ fn testport_asked(alloc: Global, rest: &[Text]) -> Result<Asked, NoMemory>
     }
 }
 
-fn distclean_asked(rest: &[Text]) -> Asked
+fn read_distclean(rest: &[Text]) -> Asked
     ensures { result ≡ asked.distclean_asked rest.now }
 {
     match rest {
@@ -82,7 +82,7 @@ fn distclean_asked(rest: &[Text]) -> Asked
     }
 }
 
-fn publish_asked(rest: &[Text]) -> Asked
+fn read_publish(rest: &[Text]) -> Asked
     ensures { result ≡ asked.publish_asked rest.now }
 {
     if rest.is_empty() {
@@ -108,17 +108,17 @@ fn flags_of(command: &Text) -> Option<Flags>
 }
 
 /// What another command asks for, by its name and the words behind it.
-fn asked_by_words(alloc: Global, command: &Text, rest: &[Text]) -> Result<Asked, NoMemory>
-    ensures { IfOk result (λ found. found ≡ asked.asked_by_words command.now rest.now) }
+fn read_others(alloc: Global, command: &Text, rest: &[Text]) -> Result<Asked, NoMemory>
+    ensures { IfOk result (λ found. found ≡ asked.words_asked command.now rest.now) }
 {
     if command.is(b"sample") {
-        Ok(sample_asked(rest))
+        Ok(read_sample(rest))
     } else if command.is(b"testport") {
-        testport_asked(alloc, rest)
+        read_testport(alloc, rest)
     } else if command.is(b"distclean") {
-        Ok(distclean_asked(rest))
+        Ok(read_distclean(rest))
     } else if command.is(b"publish") {
-        Ok(publish_asked(rest))
+        Ok(read_publish(rest))
     } else {
         Ok(Asked::Usage {
             command: CommandName::Bulk,
@@ -133,10 +133,11 @@ fn asked_by_words(alloc: Global, command: &Text, rest: &[Text]) -> Result<Asked,
 /// of `bulk` comes exactly where there is no word or none that is a command, where clap's reading of `bulk` has a fault,
 /// where the value of `-J` is no number, where `-a` stands beside `-f` or an origin, where none of these three is there, and
 /// where `sample` has not just one number behind it. `pkgclean` has its own usage under the same rules without `-J`;
-/// `testport` where there is not just one word, or one that ends in `@all`; `distclean` where there is more than one `-n`;
+/// `testport` where there is not just one word, or one that ends in `@all`; `distclean` where there is anything but one `-n`;
 /// `publish` where there is any word. NoMemory for want of memory alone.
 ///
-/// Each word is looked at a fixed number of times for each flag, and copied at most twice.
+/// Each word is looked at a fixed number of times for each flag. Memory is taken for the description of the flags, a list of
+/// the words, and a copy of each value.
 pub fn read_words(alloc: Global, words: &[Text]) -> Result<Asked, NoMemory>
     // What the words ask for, exactly.
     ensures asked { IfOk result (λ found. found ≡ asked.asked_of words.now) }
@@ -149,7 +150,7 @@ pub fn read_words(alloc: Global, words: &[Text]) -> Result<Asked, NoMemory>
         });
     };
     match flags_of(command) {
-        Some(flags) => asked_by_flags(alloc, flags, words),
-        None => asked_by_words(alloc, command, rest),
+        Some(flags) => read_flags(alloc, flags, words),
+        None => read_others(alloc, command, rest),
     }
 }

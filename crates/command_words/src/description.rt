@@ -76,7 +76,8 @@ fn with_flags<'a>(
     flags: Flags,
     command: Command<'a>,
 ) -> Result<Command<'a>, NoMemory>
-    ensures { IfOk result (λ c. app_of c ≡ fold with_rule (app_of command.entry) (flag_rules flags)) }
+    ensures { IfOk result (λ c.
+        app_of c ≡ fold with_rule (app_of command.entry) (flag_rules flags)) }
 {
     let shared = with_shared_flags(alloc, command)?;
     match flags {
@@ -106,7 +107,7 @@ fn refused<'a>(error: &Error) -> Result<Option<ArgMatches<'a>>, NoMemory>
 
 /// clap's matches of words, of which the first is not looked at; None where clap refuses them. Each word is looked at a fixed
 /// number of times for each flag.
-pub(crate) fn read_matches<'a>(
+pub(crate) fn match_words<'a>(
     alloc: Global,
     flags: Flags,
     words: &'a [&'a str],

@@ -56,9 +56,9 @@ fn value_of(alloc: Global, matches: &ArgMatches<'_>, id: &str) -> Result<Option<
 }
 
 /// The words that are no flag, no option and no value of one.
-fn origins_in(alloc: Global, matches: &ArgMatches<'_>) -> Result<Texts, NoMemory>
+fn read_origins(alloc: Global, matches: &ArgMatches<'_>) -> Result<Texts, NoMemory>
     requires { RowsHaveTextBytes (rows_of (found_of matches.now)) }
-    ensures { IfOk result (λ found. found ≡ reading.origins_in (rows_of (found_of matches.now))) }
+    ensures { IfOk result (λ found. found ≡ reading.origins_of (rows_of (found_of matches.now))) }
 {
     match matches.get_strs("origins") {
         Some(values) => texts_of(alloc, values),
@@ -67,15 +67,15 @@ fn origins_in(alloc: Global, matches: &ArgMatches<'_>) -> Result<Texts, NoMemory
 }
 
 /// The ports that are named.
-fn ports_in(alloc: Global, matches: &ArgMatches<'_>) -> Result<PortWords, NoMemory>
+fn read_ports(alloc: Global, matches: &ArgMatches<'_>) -> Result<PortWords, NoMemory>
     requires { RowsHaveTextBytes (rows_of (found_of matches.now)) }
-    ensures { IfOk result (λ ports. ports ≡ asked.ports_in (rows_of (found_of matches.now))) }
+    ensures { IfOk result (λ ports. ports ≡ asked.ports_of (rows_of (found_of matches.now))) }
 {
     let list = value_of(alloc, matches, "list")?;
     Ok(PortWords {
         all: has_flag(matches, "all"),
         list,
-        origins: origins_in(alloc, matches)?,
+        origins: read_origins(alloc, matches)?,
     })
 }
 
@@ -88,8 +88,8 @@ fn are_fit(ports: &PortWords) -> bool
 }
 
 /// What is to be built anew: `-c` rules over `-C`.
-fn clean_in(matches: &ArgMatches<'_>) -> Clean
-    ensures { result ≡ asked.clean_in (rows_of (found_of matches.now)) }
+fn read_clean(matches: &ArgMatches<'_>) -> Clean
+    ensures { result ≡ asked.clean_of (rows_of (found_of matches.now)) }
 {
     if has_flag(matches, "clean_all") {
         Clean::All
@@ -101,8 +101,8 @@ fn clean_in(matches: &ArgMatches<'_>) -> Clean
 }
 
 /// The number of builders, if it stands in the words; None where its value is no number.
-fn builders_by(value: Option<&Text>) -> Option<Option<u64>>
-    ensures { result ≡ asked.builders_by (option_copied value.entry) }
+fn read_builders(value: Option<&Text>) -> Option<Option<u64>>
+    ensures { result ≡ asked.builders_of (option_copied value.entry) }
 {
     match value {
         Some(text) => match number(text) {
@@ -114,13 +114,13 @@ fn builders_by(value: Option<&Text>) -> Option<Option<u64>>
 }
 
 /// The words of `bulk` with these ports and builders.
-fn bulk_with(matches: &ArgMatches<'_>, ports: PortWords, builders: Option<u64>) -> Asked
-    requires { ports ≡ asked.ports_in (rows_of (found_of matches.now)) }
-    ensures { result ≡ asked.bulk_with (rows_of (found_of matches.now)) builders }
+fn bulk_words(matches: &ArgMatches<'_>, ports: PortWords, builders: Option<u64>) -> Asked
+    requires { ports ≡ asked.ports_of (rows_of (found_of matches.now)) }
+    ensures { result ≡ asked.bulk_words (rows_of (found_of matches.now)) builders }
 {
     Asked::Bulk(BulkWords {
         ports,
-        clean: clean_in(matches),
+        clean: read_clean(matches),
         dry_run: has_flag(matches, "dry_run"),
         try_broken: has_flag(matches, "try_broken"),
         builders,
@@ -128,14 +128,14 @@ fn bulk_with(matches: &ArgMatches<'_>, ports: PortWords, builders: Option<u64>) 
 }
 
 /// What the words of `bulk` ask for.
-fn bulk_in(alloc: Global, matches: &ArgMatches<'_>) -> Result<Asked, NoMemory>
+fn read_bulk(alloc: Global, matches: &ArgMatches<'_>) -> Result<Asked, NoMemory>
     requires { RowsHaveTextBytes (rows_of (found_of matches.now)) }
-    ensures { IfOk result (λ found. found ≡ asked.bulk_in (rows_of (found_of matches.now))) }
+    ensures { IfOk result (λ found. found ≡ asked.bulk_asked (rows_of (found_of matches.now))) }
 {
     let value = value_of(alloc, matches, "builders")?;
-    let ports = ports_in(alloc, matches)?;
-    match builders_by(value.as_ref()) {
-        Some(builders) if are_fit(&ports) => Ok(bulk_with(matches, ports, builders)),
+    let ports = read_ports(alloc, matches)?;
+    match read_builders(value.as_ref()) {
+        Some(builders) if are_fit(&ports) => Ok(bulk_words(matches, ports, builders)),
         _ => Ok(Asked::Usage {
             command: CommandName::Bulk,
         }),
@@ -143,11 +143,11 @@ fn bulk_in(alloc: Global, matches: &ArgMatches<'_>) -> Result<Asked, NoMemory>
 }
 
 /// What the words of `pkgclean` ask for.
-fn pkgclean_in(alloc: Global, matches: &ArgMatches<'_>) -> Result<Asked, NoMemory>
+fn read_pkgclean(alloc: Global, matches: &ArgMatches<'_>) -> Result<Asked, NoMemory>
     requires { RowsHaveTextBytes (rows_of (found_of matches.now)) }
-    ensures { IfOk result (λ found. found ≡ asked.pkgclean_in (rows_of (found_of matches.now))) }
+    ensures { IfOk result (λ found. found ≡ asked.pkgclean_asked (rows_of (found_of matches.now))) }
 {
-    let ports = ports_in(alloc, matches)?;
+    let ports = read_ports(alloc, matches)?;
     if !are_fit(&ports) {
         return Ok(Asked::Usage {
             command: CommandName::PkgClean,
@@ -158,16 +158,17 @@ fn pkgclean_in(alloc: Global, matches: &ArgMatches<'_>) -> Result<Asked, NoMemor
 }
 
 /// What the words of a command with flags ask for. One pass over the values; takes memory for a copy of each.
-pub(crate) fn asked_in(
+pub(crate) fn read_matches(
     alloc: Global,
     flags: Flags,
     matches: &ArgMatches<'_>,
 ) -> Result<Asked, NoMemory>
     requires { RowsHaveTextBytes (rows_of (found_of matches.now)) }
-    ensures { IfOk result (λ found. found ≡ asked.asked_in flags (rows_of (found_of matches.now))) }
+    ensures { IfOk result (λ found.
+        found ≡ asked.matches_asked flags (rows_of (found_of matches.now))) }
 {
     match flags {
-        Flags::OfBulk => bulk_in(alloc, matches),
-        Flags::OfPkgclean => pkgclean_in(alloc, matches),
+        Flags::OfBulk => read_bulk(alloc, matches),
+        Flags::OfPkgclean => read_pkgclean(alloc, matches),
     }
 }

@@ -1,7 +1,7 @@
 use Rattle.clap.specs.Walk.{texts}
 use Rattle.clap.specs.Words.{app_of, found_of, kind_of, rows_of}
 use Rattle.command_words.proofs.Read.{matched, matched_texts, unmatched}
-use Rattle.command_words.proofs.description.read_matches.Goals as goal
+use Rattle.command_words.proofs.description.match_words.Goals as goal
 
 pub returns-in-Ok-clause-rows : goal.returns-in-Ok-clause-rows
 returns-in-Ok-clause-rows c =

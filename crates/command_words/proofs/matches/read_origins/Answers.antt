@@ -3,7 +3,7 @@ use Rattle.std.proofs.lemmas.Result.{IfOk-weaker}
 use Rattle.clap.specs.Matches.{found_of}
 use Rattle.clap.specs.Walk.{texts}
 use Rattle.command_words.proofs.Values.{origins_by_rows, values_are_texts}
-use Rattle.command_words.proofs.matches.origins_in.Goals as goal
+use Rattle.command_words.proofs.matches.read_origins.Goals as goal
 
 pub texts_of-requires : goal.texts_of-requires
 texts_of-requires c = values_are_texts (found_of c.args.matches.now) (codes "origins") (texts c.in-Some.values.now) c.requires c.in-Some.ensures
