@@ -95,7 +95,7 @@ fn describe<'a>(alloc: Global, flags: Flags) -> Result<Command<'a>, NoMemory>
 }
 
 /// Passes on want of memory; that words are refused for another cause is told as None.
-fn refused<'a>(error: &Error) -> Result<Option<ArgMatches<'a>>, NoMemory>
+fn pass_memory<'a>(error: &Error) -> Result<Option<ArgMatches<'a>>, NoMemory>
     ensures none { IfOk result (λ read. read ≡ None) }
     ensures cause { OnOk result (kind_of error.now ≢ OutOfMemory) }
 {
@@ -120,6 +120,6 @@ pub(crate) fn match_words<'a>(
 {
     match describe(alloc, flags)?.try_get_matches_from(words) {
         Ok(matches) => Ok(Some(matches)),
-        Err(error) => refused(&error),
+        Err(error) => pass_memory(&error),
     }
 }

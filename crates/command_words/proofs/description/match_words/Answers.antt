@@ -15,5 +15,5 @@ returns-in-Ok-clause-form c =
 
 pub returns-in-Err-clause-rows : goal.returns-in-Err-clause-rows
 returns-in-Err-clause-rows c =
-    unmatched c.refused.result (λ m. rows_of (found_of m)) c.args.flags (app_of c.in_ok-describe.field-0) (texts c.args.words.now)
-    (kind_of c.in-Err.error) c.in_ok-describe.ensures c.refused.ensures.none c.refused.ensures.cause c.in-Err.ensures.kinds
+    unmatched c.pass_memory.result (λ m. rows_of (found_of m)) c.args.flags (app_of c.in_ok-describe.field-0) (texts c.args.words.now)
+    (kind_of c.in-Err.error) c.in_ok-describe.ensures c.pass_memory.ensures.none c.pass_memory.ensures.cause c.in-Err.ensures.kinds
