@@ -3,3 +3,4 @@ pub mod Reading
 pub mod Laws
 pub mod Hashing
 pub mod Noting
+pub mod Stored

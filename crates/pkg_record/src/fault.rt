@@ -7,7 +7,7 @@ ghost use Rattle.pkg_record.specs.declared.fault.RecordError.TheVariants.{NoMemo
 use bulk_base::Text;
 use std::alloc::AllocError;
 
-/// Why bytes are no record (docs/FORMATS.md, "The package record, version 1").
+/// Why bytes are no record (docs/FORMATS.md, "The package record").
 #[derive(Debug, Drop)]
 pub enum RecordError {
     /// The bytes end before the line with the digest does, and each line or piece that ends in them fits what stands
