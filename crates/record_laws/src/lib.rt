@@ -2,5 +2,9 @@
 #![tactic(auto)]
 
 mod records;
+mod stores;
 
 pub use records::no_record_begins_another;
+pub use stores::{
+    other_changes_leave_all, packages_are_there, puts_are_packages, removals_leave_others,
+};
