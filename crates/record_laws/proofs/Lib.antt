@@ -1,1 +1,4 @@
 pub mod Beginnings
+pub mod Delimiting
+pub mod RecipeParts
+pub mod RecipesApart

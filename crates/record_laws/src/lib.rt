@@ -1,6 +1,8 @@
 //! Laws of package records that no other crate cites: each is the contract of a function that does nothing.
 #![tactic(auto)]
 
+mod recipes;
 mod records;
 
+pub use recipes::each_recipe_has_its_text;
 pub use records::no_record_begins_another;
