@@ -19,6 +19,7 @@ use Rattle.bulk_base.specs.declared.file.Switch.{Switch}
 use Rattle.bulk_base.specs.Names.{is_flavor, is_option_name, IsNode, IsPackageName}
 use Rattle.bulk_base.specs.Text.{is_text, is_text_byte, has_text_bytes}
 use Rattle.bulk_base.specs.Path.{is_path, is_below}
+use Rattle.bulk_model.specs.declared.depend.DepKind.{DepKind}
 use Rattle.bulk_model.specs.declared.depend.Depend.{Depend}
 use Rattle.bulk_model.specs.declared.depend.Recorded.{Recorded}
 use Rattle.bulk_model.specs.declared.digest.Digest.{Digest}
@@ -35,7 +36,7 @@ use Rattle.pkg_record.specs.declared.fault.Fault.TheVariants.{Misfit}
 use Rattle.pkg_record.specs.declared.answer.Record.{Record}
 use Rattle.pkg_record.specs.declared.fault.RecordError.{RecordError}
 use Rattle.pkg_record.specs.declared.fault.RecordError.TheVariants as records
-use Rattle.port_name.specs.Forms.{is_origin}
+use Rattle.port_name.specs.Forms.{is_origin, is_node}
 use Rattle.port_name.specs.PackageForm.{is_package_name}
 use Rattle.pkg_record.specs.Said.{word_behind, version_said, flavor_said, recipe_said, count_behind, option_said, depend_said, file_said}
 use Rattle.pkg_record.specs.Reading.{◌>>=◌, said_at, piece_at, last_of, option_follows, next_option, option_at, depend_follows, next_depend, depend_at, path_follows, is_record_path, is_next_path, next_file, file_at, items_at, listed_at, recipe_at, package_told, unsigned_at, signed, signed_at, digest_before, answer, judged, record_of}
@@ -83,14 +84,32 @@ switch_line : (on : Bool) → Lacks 10 (switch_word on)
 switch_line true = refl
 switch_line false = refl
 
+pub option_lacks : (x : Switch) → is_option_name x.name ≡ true → Lacks 10 (codes "option " ++ x.name ++ codes " " ++ switch_word x.on)
+option_lacks x name =
+    lacks_joined 10 (codes "option " ++ x.name ++ codes " ") (switch_word x.on)
+    (lacks_joined 10 (codes "option " ++ x.name) (codes " ") (lacks_joined 10 (codes "option ") x.name refl (plain_line x.name (option_name x.name name).1)) refl)
+    (switch_line x.on)
+
+pub depend_lacks : (kind : DepKind) (node name : List ℕ) → is_node node ≡ true → is_package_name name ≡ true → Lacks 10 (depend_words kind node name)
+depend_lacks kind node name n m =
+    let head = codes "depend " ++ kind_word kind ++ codes " " in
+    let lacks_head : Lacks 10 head = lacks_joined 10 (codes "depend " ++ kind_word kind) (codes " ") (lacks_joined 10 (codes "depend ") (kind_word kind) refl (kind_line kind)) refl in
+    let lacks_node : Lacks 10 (head ++ node) = lacks_joined 10 head node lacks_head (plain_line node (node_plain node n)) in
+    lacks_joined 10 (head ++ node ++ codes " ") name (lacks_joined 10 (head ++ node) (codes " ") lacks_node refl) (plain_line name (package_name_plain name m))
+
+pub file_lacks : (size : ℕ) (path : List ℕ) → size < 2 ^ 64 → Lacks 10 path → Lacks 10 (codes "file " ++ decimal size ++ codes " " ++ path)
+file_lacks size path small lacks =
+    lacks_joined 10 (codes "file " ++ decimal size ++ codes " ") path
+    (lacks_joined 10 (codes "file " ++ decimal size) (codes " ") (lacks_joined 10 (codes "file ") (decimal size) refl (plain_line (decimal size) (decimal_plain size small))) refl)
+    lacks
+
 option_item_again : (before : List Switch) (x : Switch) (more : List Switch) (rest : List ℕ) → IsOptionList (before ++ x ∷ more) → option_at before (option_line x ++ rest) ≡ Ok (x, rest)
 unfolding option_at
 option_item_again before x more rest form =
     let name : is_option_name x.name ≡ true = (test_at is_option_name (λ o. o.name) before x more form.forms).1 in
     let follows : option_follows (last_of before) x ≡ true = follows_by before x (λ l. option_follows l x) refl (last_less (λ o. o.name) before x more form.order) in
     let text = codes "option " ++ x.name ++ codes " " ++ switch_word x.on in
-    let lacks : Lacks 10 text = lacks_joined 10 (codes "option " ++ x.name ++ codes " ") (switch_word x.on) (lacks_joined 10 (codes "option " ++ x.name) (codes " ") (lacks_joined 10 (codes "option ") x.name refl (plain_line x.name (option_name x.name name).1)) refl) (switch_line x.on) in
-    said_again (λ t. option_and_then (next_option before) (option_said t)) text x rest lacks (ap (option_and_then (next_option before)) (option_again x name) ∙ ap (λ b. cond b (Some x) None) follows)
+    said_again (λ t. option_and_then (next_option before) (option_said t)) text x rest (option_lacks x name) (ap (option_and_then (next_option before)) (option_again x name) ∙ ap (λ b. cond b (Some x) None) follows)
 
 -- a list of dependencies of which a version tells all that it tells
 pub record AreDepends (version : Version) (depends : List Recorded) : Type 0 where
@@ -113,12 +132,8 @@ depend_item_again version before x more rest form =
     ∙ ap (λ n. comes_before (get_or (map need_of before) (n - 1) (need_of x)) (need_of x)) (sym (length-map before need_of))
     ∙ each_at (map need_of before) (need_of x) (map need_of more) needs.order (omega (arith, some, length-map before need_of)) in
     let follows : depend_follows (last_of before) x ≡ true = follows_by before x (λ l. depend_follows l x) refl behind_last in
-    let head = codes "depend " ++ kind_word x.kind ++ codes " " in
     let mark = mark_word version x.digest in
-    let lacks_head : Lacks 10 head = lacks_joined 10 (codes "depend " ++ kind_word x.kind) (codes " ") (lacks_joined 10 (codes "depend ") (kind_word x.kind) refl (kind_line x.kind)) refl in
-    let lacks_node : Lacks 10 (head ++ x.node) = lacks_joined 10 head x.node lacks_head (plain_line x.node (node_plain x.node node)) in
-    let lacks_name : Lacks 10 (depend_words x.kind x.node x.name) = lacks_joined 10 (head ++ x.node ++ codes " ") x.name (lacks_joined 10 (head ++ x.node) (codes " ") lacks_node refl) (plain_line x.name (package_name_plain x.name name)) in
-    let lacks : Lacks 10 (depend_words x.kind x.node x.name ++ mark) = lacks_joined 10 (depend_words x.kind x.node x.name) mark lacks_name (mark_line version x.digest told) in
+    let lacks : Lacks 10 (depend_words x.kind x.node x.name ++ mark) = lacks_joined 10 (depend_words x.kind x.node x.name) mark (depend_lacks x.kind x.node x.name node name) (mark_line version x.digest told) in
     said_again (λ t. option_and_then (next_depend before) (depend_said version t)) (depend_words x.kind x.node x.name ++ mark) x rest lacks (ap (option_and_then (next_depend before)) (depend_again version x node name told) ∙ ap (λ b. cond b (Some x) None) follows)
 
 -- ---- files
@@ -143,7 +158,7 @@ free_before before x more h =
     let front = (test_at (λ f. list_all (λ q. not (is_below f q)) all) (λ f. f.path) before x more h).0 in
     apart_at x.path (paths_of more) all (paths_of before) (paths_of before) e front
 
-text_line_byte : (b : ℕ) → is_text_byte b ≡ true → differs 10 b ≡ true
+pub text_line_byte : (b : ℕ) → is_text_byte b ≡ true → differs 10 b ≡ true
 text_line_byte b h = grind arith
 
 record_path_line : (path : List ℕ) → is_record_path path ≡ true → Lacks 10 path
@@ -161,10 +176,7 @@ file_item_again before x more rest form =
     let follows : path_follows (last_of before) x.path ≡ true = follows_by before x (λ l. path_follows l x.path) refl (last_less (λ f. f.path) before x more form.facts.order) in
     let next : is_next_path before x.path ≡ true = and_from _ _ (and_from _ _ path follows) (free_before before x more form.facts.apart) in
     let text = codes "file " ++ decimal (length x.bytes) ++ codes " " ++ x.path in
-    let lacks : Lacks 10 text =
-    lacks_joined 10 (codes "file " ++ decimal (length x.bytes) ++ codes " ") x.path
-    (lacks_joined 10 (codes "file " ++ decimal (length x.bytes)) (codes " ") (lacks_joined 10 (codes "file ") (decimal (length x.bytes)) refl (plain_line (decimal (length x.bytes)) (decimal_plain (length x.bytes) size))) refl)
-    (record_path_line x.path path) in
+    let lacks : Lacks 10 text = file_lacks (length x.bytes) x.path size (record_path_line x.path path) in
     let head = said_again (λ t. option_and_then (next_file before) (file_said t)) text (length x.bytes, x.path) (line x.bytes ++ rest) lacks
     (ap (option_and_then (next_file before)) (file_again (length x.bytes) x.path size) ∙ ap (λ b. cond b (Some (length x.bytes, x.path)) None) next) in
     ap (file_at before) (append_assoc (line text) (line x.bytes) rest)
@@ -202,7 +214,7 @@ listed_again heading item spell Form again h all rest form few =
 word_line_again : (heading : List ℕ) (test : List ℕ → Bool) (word rest : List ℕ) → Lacks 10 heading → Lacks 10 word → test word ≡ true → said_at (word_behind heading test) (line (heading ++ word) ++ rest) ≡ Ok (word, rest)
 word_line_again heading test word rest h w t = said_again (word_behind heading test) (heading ++ word) word rest (lacks_joined 10 heading word h w) (word_again heading test word t)
 
-flavor_line : (flavor : Option (List ℕ)) → IfSome flavor (λ f. IsTrue (is_flavor f)) → Lacks 10 (flavor_word flavor)
+pub flavor_line : (flavor : Option (List ℕ)) → IfSome flavor (λ f. IsTrue (is_flavor f)) → Lacks 10 (flavor_word flavor)
 flavor_line None h = refl
 flavor_line (Some f) h = plain_line f (flavor_name f h).1
 

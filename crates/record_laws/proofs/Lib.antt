@@ -1,2 +1,5 @@
 pub mod Beginnings
 pub mod Storing
+pub mod Delimiting
+pub mod RecipeParts
+pub mod RecipesApart
