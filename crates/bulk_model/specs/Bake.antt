@@ -37,12 +37,14 @@ installed packages = flat_map (λ p. p.files) packages
 abbrev pub first_conflict : List (List ℕ) → List FileItem → Option (List ℕ)
 first_conflict seen [] = None
 first_conflict seen (file ∷ files) =
-    if list_any (collides file.path) seen then Some file.path else first_conflict (file.path ∷ seen) files
+    if list_any (collides file.path) seen then Some file.path
+    else first_conflict (file.path ∷ seen) files
 
 -- the folder in which a build begins: the base root, the installed files below `local/`, the port's below `work/`
 abbrev pub first_folder : List FileItem → List PackageView → JobView → Contents
 first_folder base packages job =
-    from_entries (map (λ file. (file.path, file.bytes)) base ++ placed (codes "local") (installed packages)
+    from_entries (map (λ file. (file.path, file.bytes)) base
+    ++ placed (codes "local") (installed packages)
     ++ placed (codes "work") job.files)
 
 -- commands one after another, up to the first whose status is not 0
@@ -55,7 +57,8 @@ run_all runs (command ∷ commands) folder =
 -- the five phases with their commands
 abbrev pub phases_of : Steps → List (Phase × List (List (List ℕ)))
 phases_of steps =
-    (Extract, steps.extract) ∷ (Patch, steps.patch) ∷ (Configure, steps.configure) ∷ (Build, steps.build) ∷ (Stage, steps.stage) ∷ []
+    (Extract, steps.extract) ∷ (Patch, steps.patch) ∷ (Configure, steps.configure)
+    ∷ (Build, steps.build) ∷ (Stage, steps.stage) ∷ []
 
 -- the files below `stage/`, with `stage/` taken off
 abbrev pub staged : Contents → List FileItem
@@ -64,7 +67,9 @@ staged folder = files_in (codes "stage") folder
 -- the digest of the record of the first package that a dependency means by node and name
 abbrev pub mark_among : List PackageView → Depend → Digest
 mark_among packages depend =
-    option_map_or mark (find (λ p. bytes_eq depend.node (node_of_package p) && bytes_eq depend.name p.name) packages) no_digest
+    option_map_or mark
+    (find (λ p. bytes_eq depend.node (node_of_package p) && bytes_eq depend.name p.name) packages)
+    no_digest
 
 abbrev pub recorded : List PackageView → Depend → Recorded
 recorded packages depend =
@@ -85,10 +90,12 @@ package_of base job packages files = record {
 -- a package that is too heavy fails
 abbrev pub packed : List FileItem → JobView → List PackageView → List FileItem → Outcome
 packed base job packages files =
-    if nat_lt most_weight (weight_of files) then Failed Package 2 else Built (package_of base job packages files)
+    if nat_lt most_weight (weight_of files) then Failed Package 2
+    else Built (package_of base job packages files)
 
 -- the phases one after another, up to the first that fails; then what was staged
-abbrev pub run_phases : Runs → (List FileItem → Outcome) → List (Phase × List (List (List ℕ))) → Contents → Outcome
+abbrev pub run_phases : Runs → (List FileItem → Outcome) → List (Phase × List (List (List ℕ)))
+    → Contents → Outcome
 run_phases runs pack [] folder = pack (staged folder)
 run_phases runs pack (phase ∷ phases) folder =
     let ran = run_all runs phase.1 folder in
@@ -98,4 +105,5 @@ run_phases runs pack (phase ∷ phases) folder =
 abbrev pub bake : Runs → List FileItem → JobView → List PackageView → Outcome
 bake runs base job packages =
     if is_some (first_conflict [] (installed packages)) then Failed Depends 1
-    else run_phases runs (packed base job packages) (phases_of job.steps) (first_folder base packages job)
+    else run_phases runs (packed base job packages) (phases_of job.steps)
+    (first_folder base packages job)

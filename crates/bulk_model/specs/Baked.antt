@@ -11,7 +11,8 @@ use Rattle.bulk_model.specs.Views.{JobView, PackageView, need_of}
 use Rattle.bulk_model.specs.Weight.{weight_of, most_weight}
 
 -- a package of a job: all that the job's build over a base root and these packages decides beforehand is as it decides
-pub record IsPackageOf (base : List FileItem) (job : JobView) (packages : List PackageView) (p : PackageView) : Type 0 where
+pub record IsPackageOf (base : List FileItem) (job : JobView) (packages : List PackageView)
+    (p : PackageView) : Type 0 where
   pub made : p ≡ package_of base job packages p.files
   pub light : weight_of p.files ≤ most_weight
 
@@ -20,7 +21,8 @@ IsOutcomeOf base job packages (Built p) = IsPackageOf base job packages p
 IsOutcomeOf base job packages (Failed phase code) = Unit {0}
 
 -- what a build may come to: a failure, or a package of the job; where rooms tell what commands do, it is what `bake` gives
-pub record IsBuildOf (tells : Bool) (runs : Runs) (base : List FileItem) (job : JobView) (packages : List PackageView) (outcome : Outcome) : Type 0 where
+pub record IsBuildOf (tells : Bool) (runs : Runs) (base : List FileItem) (job : JobView)
+    (packages : List PackageView) (outcome : Outcome) : Type 0 where
   pub fields : IsOutcomeOf base job packages outcome
   pub told : IsTrue tells → outcome ≡ bake runs base job packages
 
@@ -38,6 +40,7 @@ IsOfJob job (Failed phase code) = Unit {0}
 
 -- what may come of a node: a failure, or a package with its job's fields; where rooms tell what commands do, it is what
 -- one builder gives
-pub record IsOutcomeAt (tells : Bool) (runs : Runs) (plan : PlanView) (kept : KeptPackages) (n : ℕ) (outcome : Outcome) : Type 0 where
+pub record IsOutcomeAt (tells : Bool) (runs : Runs) (plan : PlanView) (kept : KeptPackages) (n : ℕ)
+    (outcome : Outcome) : Type 0 where
   pub fields : IsOfJob (job_at plan n) outcome
   pub told : IsTrue tells → status_at (bakes_by runs plan) plan kept n ≡ status_of_outcome outcome

@@ -9,13 +9,16 @@ use Rattle.bulk_model.specs.Fit.{status_in, is_skipped}
 
 -- the least dependency of a node without a package
 abbrev pub least_setback : PlanView → List Status → ℕ → Option ℕ
-least_setback plan statuses n = least_passing (λ d. not (is_good (status_in statuses d))) (depends plan n)
+least_setback plan statuses n =
+    least_passing (λ d. not (is_good (status_in statuses d))) (depends plan n)
 
 -- that dependency, or where it was skipped its own cause, in so many steps at most
 abbrev pub cause_within : PlanView → List Status → ℕ → ℕ → ℕ
 cause_within plan statuses zero n = n
 cause_within plan statuses (suc steps) n =
-    option_map_or (λ d. if is_skipped (status_in statuses d) then cause_within plan statuses steps d else d) (least_setback plan statuses n) n
+    option_map_or
+    (λ d. if is_skipped (status_in statuses d) then cause_within plan statuses steps d else d)
+    (least_setback plan statuses n) n
 
 -- no chain of dependencies is longer than there are nodes
 abbrev pub cause : PlanView → List Status → ℕ → ℕ

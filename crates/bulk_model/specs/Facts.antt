@@ -38,7 +38,9 @@ pub record IsOptionList (options : List Switch) : Type 0 where
   pub forms : IsTrue (list_all is_option_name (map (λ o. o.name) options))
 
 abbrev pub comes_before : Depend → Depend → Bool
-comes_before a b = is_lt (ordering_then (nat_cmp (kind_number a.kind) (kind_number b.kind)) (slice_cmp nat_cmp a.node b.node))
+comes_before a b =
+    is_lt (ordering_then (nat_cmp (kind_number a.kind) (kind_number b.kind))
+    (slice_cmp nat_cmp a.node b.node))
 
 -- each element comes before the next
 abbrev pub each_before : List Depend → Bool

@@ -20,7 +20,8 @@ pub record MayKeep (job : JobView) (p : PackageView) : Type 0 where
 pub record FitsKept (plan : PlanView) (kept : KeptPackages) : Type 0 where
   pub places : length kept.packages ≡ count plan
   pub allowed : (n : ℕ) → n < count plan → is_kept kept n ≡ true → is_ignored plan n ≡ false
-  pub closed : (n : ℕ) → n < count plan → is_kept kept n ≡ true → list_all (is_kept kept) (depends plan n) ≡ true
+  pub closed : (n : ℕ) → n < count plan → is_kept kept n ≡ true
+      → list_all (is_kept kept) (depends plan n) ≡ true
   pub fields : (n : ℕ) → n < count plan → IfSome (kept_at kept n) (MayKeep (job_at plan n))
 
 abbrev pub status_in : List Status → ℕ → Status
@@ -47,8 +48,10 @@ has_setback plan statuses n = list_any (λ d. not (is_good (status_in statuses d
 -- one place per node, only what the plan ignores is ignored, and what is skipped has a dependency without a package
 pub record FitsResults (plan : PlanView) (statuses : List Status) : Type 0 where
   pub places : length statuses ≡ count plan
-  pub ignored : (n : ℕ) → n < count plan → is_ignored_status (status_in statuses n) ≡ true → is_ignored plan n ≡ true
-  pub skipped : (n : ℕ) → n < count plan → is_skipped (status_in statuses n) ≡ true → has_setback plan statuses n ≡ true
+  pub ignored : (n : ℕ) → n < count plan → is_ignored_status (status_in statuses n) ≡ true
+      → is_ignored plan n ≡ true
+  pub skipped : (n : ℕ) → n < count plan → is_skipped (status_in statuses n) ≡ true
+      → has_setback plan statuses n ≡ true
 
 abbrev pub outcome_at : List (Option Outcome) → ℕ → Option Outcome
 outcome_at outcomes n = slice_index_or outcomes n None
@@ -63,7 +66,10 @@ abbrev pub is_there : KeptPackages → List (Option Outcome) → ℕ → Bool
 is_there kept outcomes n = is_kept kept n || has_built (outcome_at outcomes n)
 
 -- one place per node; outcomes stand only at nodes that were to be built and whose dependencies were there
-pub record FitsPartial (plan : PlanView) (kept : KeptPackages) (outcomes : List (Option Outcome)) : Type 0 where
+pub record FitsPartial (plan : PlanView) (kept : KeptPackages)
+    (outcomes : List (Option Outcome)) : Type 0 where
   pub places : length outcomes ≡ count plan
-  pub own : (n : ℕ) (outcome : Outcome) → outcome_at outcomes n ≡ Some outcome → (is_kept kept n ≡ false) × (is_ignored plan n ≡ false)
-  pub behind : (n : ℕ) (outcome : Outcome) → outcome_at outcomes n ≡ Some outcome → list_all (is_there kept outcomes) (depends plan n) ≡ true
+  pub own : (n : ℕ) (outcome : Outcome) → outcome_at outcomes n ≡ Some outcome
+      → (is_kept kept n ≡ false) × (is_ignored plan n ≡ false)
+  pub behind : (n : ℕ) (outcome : Outcome) → outcome_at outcomes n ≡ Some outcome
+      → list_all (is_there kept outcomes) (depends plan n) ≡ true

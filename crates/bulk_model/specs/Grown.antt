@@ -6,4 +6,5 @@ use Rattle.std.specs.List.{list_any}
 abbrev pub grown : {X : Type 0} → (X → Bool) → (X → X → Bool) → List X → ℕ → X → Bool
 grown first leads elements zero x = first x
 grown first leads elements (suc rounds) x =
-    grown first leads elements rounds x || list_any (λ m. grown first leads elements rounds m && leads m x) elements
+    grown first leads elements rounds x
+    || list_any (λ m. grown first leads elements rounds m && leads m x) elements

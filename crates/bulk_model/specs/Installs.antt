@@ -19,14 +19,16 @@ is_needed_later Run = true
 
 -- the nodes that a node needs later
 abbrev pub later_depends : PlanView → ℕ → List ℕ
-later_depends plan n = map (λ edge. edge.to) (filter (λ edge. is_needed_later edge.kind) (edges_from plan n))
+later_depends plan n =
+    map (λ edge. edge.to) (filter (λ edge. is_needed_later edge.kind) (edges_from plan n))
 
 abbrev pub has : List ℕ → ℕ → Bool
 has numbers n = list_any (λ number. number == n) numbers
 
 -- a node is installed for another after a number of rounds, where each round adds what members need later
 abbrev pub is_installed : PlanView → ℕ → ℕ → ℕ → Bool
-is_installed plan rounds n d = grown (has (depends plan n)) (λ member. has (later_depends plan member)) (nodes plan) rounds d
+is_installed plan rounds n d =
+    grown (has (depends plan n)) (λ member. has (later_depends plan member)) (nodes plan) rounds d
 
 -- in node order; as many rounds as there are nodes add all
 abbrev pub installs : PlanView → ℕ → List ℕ

@@ -14,7 +14,8 @@ abbrev pub Passes : Type 1
 Passes = ℕ → List ℕ → Type 0
 
 -- a put of a node that is neither kept nor ignored and whose dependencies are kept or put before
-pub record IsPutOf (plan : PlanView) (kept : KeptPackages) (passes : Passes) (done : List ℕ) (n : ℕ) (change : Change) : Type 0 where
+pub record IsPutOf (plan : PlanView) (kept : KeptPackages) (passes : Passes) (done : List ℕ) (n : ℕ)
+    (change : Change) : Type 0 where
   pub node : n < count plan
   pub new : is_kept kept n ≡ false
   pub allowed : is_ignored plan n ≡ false
@@ -33,8 +34,11 @@ abbrev pub removals : List (List ℕ) → List Change
 removals names = map Remove names
 
 -- the changes of a run that was to delete these files, up to any moment of it
-pub data IsJournal (plan : PlanView) (kept : KeptPackages) (passes : Passes) (deleted : List (List ℕ)) : List Change → Type 0 where
+pub data IsJournal (plan : PlanView) (kept : KeptPackages) (passes : Passes)
+    (deleted : List (List ℕ)) : List Change → Type 0 where
   deleting : (steps : ℕ) → IsJournal plan kept passes deleted (take steps (removals deleted))
-  saving : (puts : List Change) → ArePuts plan kept passes [] puts → IsJournal plan kept passes deleted (removals deleted ++ puts)
+  saving : (puts : List Change) → ArePuts plan kept passes [] puts
+      → IsJournal plan kept passes deleted (removals deleted ++ puts)
   ended : (puts : List Change) (catalogue : List ℕ) → ArePuts plan kept passes [] puts
-      → IsJournal plan kept passes deleted (removals deleted ++ puts ++ Put catalogue_file catalogue ∷ [])
+      → IsJournal plan kept passes deleted
+      (removals deleted ++ puts ++ Put catalogue_file catalogue ∷ [])

@@ -34,21 +34,25 @@ count_line heading count = line (heading ++ decimal count)
 -- a package's name, its port's origin, and its flavor
 abbrev pub name_lines : List ℕ → List ℕ → Option (List ℕ) → List ℕ
 name_lines name origin flavor =
-    line (codes "name " ++ name) ++ line (codes "origin " ++ origin) ++ line (codes "flavor " ++ flavor_word flavor)
+    line (codes "name " ++ name) ++ line (codes "origin " ++ origin)
+    ++ line (codes "flavor " ++ flavor_word flavor)
 
 abbrev pub option_line : Switch → List ℕ
 option_line option = line (codes "option " ++ option.name ++ codes " " ++ switch_word option.on)
 
 abbrev pub option_lines : List Switch → List ℕ
-option_lines options = count_line (codes "options ") (length options) ++ flat_map option_line options
+option_lines options =
+    count_line (codes "options ") (length options) ++ flat_map option_line options
 
 -- a dependency: its kind, its node and the name of that node's package
 abbrev pub depend_words : DepKind → List ℕ → List ℕ → List ℕ
-depend_words kind node name = codes "depend " ++ kind_word kind ++ codes " " ++ node ++ codes " " ++ name
+depend_words kind node name =
+    codes "depend " ++ kind_word kind ++ codes " " ++ node ++ codes " " ++ name
 
 -- a file's line, its bytes, and a line feed
 abbrev pub file_piece : FileItem → List ℕ
-file_piece file = line (codes "file " ++ decimal (length file.bytes) ++ codes " " ++ file.path) ++ line file.bytes
+file_piece file =
+    line (codes "file " ++ decimal (length file.bytes) ++ codes " " ++ file.path) ++ line file.bytes
 
 abbrev pub file_pieces : List ℕ → List FileItem → List ℕ
 file_pieces heading files = count_line heading (length files) ++ flat_map file_piece files

@@ -48,7 +48,9 @@ reason_at plan n = unwrap_or (slice_index_or plan.ignored n None) []
 
 -- a heading with its count, and its entries, each behind two spaces
 abbrev pub listed : List ℕ → List (List ℕ) → List ℕ
-listed heading entries = line (two_words heading (decimal (length entries))) ++ flat_map (λ entry. line (codes "  " ++ entry)) entries
+listed heading entries =
+    line (two_words heading (decimal (length entries)))
+    ++ flat_map (λ entry. line (codes "  " ++ entry)) entries
 
 abbrev pub kept_entry : PlanView → ℕ → Status → Option (List ℕ)
 kept_entry plan n (Kept p) = Some (node_words plan n)
@@ -67,7 +69,8 @@ built_entry plan n Skipped = None
 abbrev pub failed_entry : PlanView → ℕ → Status → Option (List ℕ)
 failed_entry plan n (Kept p) = None
 failed_entry plan n (Built p) = None
-failed_entry plan n (Failed phase code) = Some (two_words (node_words plan n) (two_words (phase_word phase) (decimal code)))
+failed_entry plan n (Failed phase code) =
+    Some (two_words (node_words plan n) (two_words (phase_word phase) (decimal code)))
 failed_entry plan n Ignored = None
 failed_entry plan n Skipped = None
 
@@ -83,7 +86,9 @@ skipped_entry plan statuses n (Kept p) = None
 skipped_entry plan statuses n (Built p) = None
 skipped_entry plan statuses n (Failed phase code) = None
 skipped_entry plan statuses n Ignored = None
-skipped_entry plan statuses n Skipped = Some (two_words (node_words plan n) (two_words (codes "because") (node_at plan (cause plan statuses n))))
+skipped_entry plan statuses n Skipped =
+    Some (two_words (node_words plan n)
+    (two_words (codes "because") (node_at plan (cause plan statuses n))))
 
 -- the entries of the nodes that have one, in node order
 abbrev pub entries : (ℕ → Status → Option (List ℕ)) → PlanView → List Status → List (List ℕ)

@@ -18,7 +18,8 @@ highest value (suc n) = max (highest value n) (value n)
 -- the edges of the longest chain of dependents above a node, of those of so many edges at most
 abbrev pub chain_above : PlanView → ℕ → ℕ → ℕ
 chain_above plan zero n = 0
-chain_above plan (suc edges) n = highest (λ m. if has (depends plan m) n then suc (chain_above plan edges m) else 0) (count plan)
+chain_above plan (suc edges) n =
+    highest (λ m. if has (depends plan m) n then suc (chain_above plan edges m) else 0) (count plan)
 
 -- 10 where the plan boosts the node, else the smaller of 9 and the edges of the longest chain of dependents above it
 abbrev pub bucket : PlanView → ℕ → ℕ
@@ -27,7 +28,8 @@ bucket plan n = if is_boosted plan n then 10 else chain_above plan 9 n
 -- the first of the list depends on the node, and each other on the one before it
 abbrev pub is_chain_above : PlanView → ℕ → List ℕ → Bool
 is_chain_above plan n [] = true
-is_chain_above plan n (dependent ∷ more) = has (depends plan dependent) n && is_chain_above plan dependent more
+is_chain_above plan n (dependent ∷ more) =
+    has (depends plan dependent) n && is_chain_above plan dependent more
 
 -- so many edges has the longest chain of dependents above the node
 pub record IsLongest (plan : PlanView) (n edges : ℕ) : Type 0 where
@@ -45,7 +47,8 @@ is_tried Skipped = false
 -- a node may come next: it was built, is not listed yet, and each of its dependencies is kept or listed
 abbrev pub may_follow : PlanView → KeptPackages → List Status → List ℕ → ℕ → Bool
 may_follow plan kept statuses listed n =
-    is_tried (status_in statuses n) && (not (has listed n) && list_all (λ d. is_kept kept d || has listed d) (depends plan n))
+    is_tried (status_in statuses n)
+    && (not (has listed n) && list_all (λ d. is_kept kept d || has listed d) (depends plan n))
 
 -- of two nodes the one with the higher bucket, of equal ones the first
 abbrev pub better : PlanView → ℕ → ℕ → ℕ

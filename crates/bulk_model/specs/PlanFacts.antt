@@ -9,7 +9,9 @@ use Rattle.bulk_model.specs.Facts.{IsFileList, paths_of}
 
 -- a path whose first part is one of the folders that a build fills
 abbrev pub is_reserved : List ℕ → Bool
-is_reserved path = list_any (λ folder. bytes_eq folder path || is_below folder path) (codes "local" ∷ codes "work" ∷ codes "stage" ∷ [])
+is_reserved path =
+    list_any (λ folder. bytes_eq folder path || is_below folder path)
+    (codes "local" ∷ codes "work" ∷ codes "stage" ∷ [])
 
 -- the base root: files of which none stands where a build puts its own
 pub record IsBase (files : List FileItem) : Type 0 where

@@ -14,12 +14,14 @@ abbrev pub depend_line : Depend → List ℕ
 depend_line depend = line (depend_words depend.kind depend.node depend.name)
 
 abbrev pub depend_lines : List Depend → List ℕ
-depend_lines depends = count_line (codes "depends ") (length depends) ++ flat_map depend_line depends
+depend_lines depends =
+    count_line (codes "depends ") (length depends) ++ flat_map depend_line depends
 
 -- how many commands each phase has
 abbrev pub steps_line : Steps → List ℕ
 steps_line steps =
-    line (codes "steps " ++ decimal (length steps.extract) ++ codes " " ++ decimal (length steps.patch)
+    line (codes "steps " ++ decimal (length steps.extract) ++ codes " "
+    ++ decimal (length steps.patch)
     ++ codes " " ++ decimal (length steps.configure) ++ codes " " ++ decimal (length steps.build)
     ++ codes " " ++ decimal (length steps.stage))
 
@@ -30,7 +32,8 @@ command_lines words = count_line (codes "command ") (length words) ++ flat_map l
 abbrev pub step_lines : Steps → List ℕ
 step_lines steps =
     steps_line steps ++ flat_map command_lines steps.extract ++ flat_map command_lines steps.patch
-    ++ flat_map command_lines steps.configure ++ flat_map command_lines steps.build ++ flat_map command_lines steps.stage
+    ++ flat_map command_lines steps.configure ++ flat_map command_lines steps.build
+    ++ flat_map command_lines steps.stage
 
 abbrev pub recipe_text : List FileItem → JobView → List ℕ
 recipe_text base job =

@@ -54,12 +54,14 @@ status_of_build bakes plan below n =
 -- the status of a node, from those of the nodes below it
 abbrev pub status_from : Bakes → PlanView → KeptPackages → (ℕ → Status) → ℕ → Status
 status_from bakes plan kept below n =
-    option_map_or Kept (kept_at kept n) (if is_ignored plan n then Ignored else status_of_build bakes plan below n)
+    option_map_or Kept (kept_at kept n)
+    (if is_ignored plan n then Ignored else status_of_build bakes plan below n)
 
 -- the same with a bound on the height; at the bound a node counts as skipped
 abbrev pub status_up_to : Bakes → PlanView → KeptPackages → ℕ → ℕ → Status
 status_up_to bakes plan kept zero n = Skipped
-status_up_to bakes plan kept (suc height) n = status_from bakes plan kept (status_up_to bakes plan kept height) n
+status_up_to bakes plan kept (suc height) n =
+    status_from bakes plan kept (status_up_to bakes plan kept height) n
 
 -- no chain of dependencies is longer than there are nodes
 abbrev pub status_at : Bakes → PlanView → KeptPackages → ℕ → Status
@@ -78,7 +80,8 @@ res runs plan kept = statuses_of (bakes_by runs plan) plan kept
 
 -- what came of each node where these outcomes were given in place of builds
 abbrev pub bakes_given : List (Option Outcome) → Bakes
-bakes_given outcomes n packages = unwrap_or (slice_index_or outcomes n None) (FailedBuild DependsPhase 0)
+bakes_given outcomes n packages =
+    unwrap_or (slice_index_or outcomes n None) (FailedBuild DependsPhase 0)
 
 abbrev pub res_given : List (Option Outcome) → PlanView → KeptPackages → List Status
 res_given outcomes plan kept = statuses_of (bakes_given outcomes) plan kept

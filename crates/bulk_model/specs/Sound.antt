@@ -38,10 +38,12 @@ IsWithin some members = (p : PackageView) → Contains some p → Contains membe
 
 -- names are file names
 abbrev pub HasNames : List PackageView → Type 0
-HasNames members = (p q : PackageView) → Contains members p → Contains members q → p.name ≡ q.name → p ≡ q
+HasNames members =
+    (p q : PackageView) → Contains members p → Contains members q → p.name ≡ q.name → p ≡ q
 
 -- the package is what its recipe gives over the members that are installed for it
-pub record IsMade (runs : Runs) (table : List Recipe) (members : List PackageView) (p : PackageView) : Type 0 where
+pub record IsMade (runs : Runs) (table : List Recipe) (members : List PackageView)
+    (p : PackageView) : Type 0 where
   pub recipe : Recipe
   pub stands : Contains table recipe
   pub digest : recipe.digest ≡ p.recipe
@@ -52,7 +54,8 @@ pub record IsMade (runs : Runs) (table : List Recipe) (members : List PackageVie
 -- members are sound: each member of each closed set of them is so made over that set
 abbrev pub IsSound : Runs → List Recipe → List PackageView → Type 0
 IsSound runs table members =
-    (some : List PackageView) → IsWithin some members → IsClosed some → (p : PackageView) → Contains some p → IsMade runs table some p
+    (some : List PackageView) → IsWithin some members → IsClosed some → (p : PackageView)
+    → Contains some p → IsMade runs table some p
 
 -- ---- the same by rounds: members are put in order, and those that lack a recorded dependency taken away until none does
 
@@ -74,7 +77,8 @@ closed_after (suc rounds) members = closed_after rounds (filter (has_all members
 abbrev pub closed_part : List PackageView → List PackageView
 closed_part members = closed_after (length members) members
 
-pub record IsMadeAmong (runs : Runs) (table : List Recipe) (members : List PackageView) (p : PackageView) : Type 0 where
+pub record IsMadeAmong (runs : Runs) (table : List Recipe) (members : List PackageView)
+    (p : PackageView) : Type 0 where
   pub recipe : Recipe
   pub stands : Contains table recipe
   pub digest : recipe.digest ≡ p.recipe
@@ -82,4 +86,5 @@ pub record IsMadeAmong (runs : Runs) (table : List Recipe) (members : List Packa
 
 abbrev pub IsSoundByRounds : Runs → List Recipe → List PackageView → Type 0
 IsSoundByRounds runs table members =
-    (p : PackageView) → Contains (closed_part (by_node members)) p → IsMadeAmong runs table (closed_part (by_node members)) p
+    (p : PackageView) → Contains (closed_part (by_node members)) p
+    → IsMadeAmong runs table (closed_part (by_node members)) p

@@ -26,10 +26,12 @@ mark_word One digest = []
 mark_word Two digest = codes " " ++ hex digest
 
 abbrev pub recorded_line : Version → Recorded → List ℕ
-recorded_line version depend = line (depend_words depend.kind depend.node depend.name ++ mark_word version depend.digest)
+recorded_line version depend =
+    line (depend_words depend.kind depend.node depend.name ++ mark_word version depend.digest)
 
 abbrev pub recorded_lines : Version → List Recorded → List ℕ
-recorded_lines version depends = count_line (codes "depends ") (length depends) ++ flat_map (recorded_line version) depends
+recorded_lines version depends =
+    count_line (codes "depends ") (length depends) ++ flat_map (recorded_line version) depends
 
 -- the lines up to the digest
 abbrev pub unsigned : Version → PackageView → List ℕ

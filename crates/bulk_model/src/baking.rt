@@ -35,8 +35,10 @@ pub trait Baking {
         packages: &[Shared<Package>],
     ) -> Result<Outcome, Outer>
         requires { MayUnderlie base.now }
-        ensures built { IfOk result (IsBuildOf Self.Ways.tells Self.Ways.runs base.now job.now packages.now) }
+        ensures built { IfOk result
+            (IsBuildOf Self.Ways.tells Self.Ways.runs base.now job.now packages.now) }
         ensures begun { OnOk result (begun self.new ≡ begun self.old ++ job.now.name ∷ []) }
-        ensures begun_err { OnErr result (GrewByAtMost job.now.name (begun self.old) (begun self.new)) }
+        ensures begun_err { OnErr result
+            (GrewByAtMost job.now.name (begun self.old) (begun self.new)) }
         ensures cause { HasCause (faults self.old) (faults self.new) result };
 }

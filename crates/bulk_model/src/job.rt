@@ -36,7 +36,23 @@ impl Model for Job {
 
     ghost use Rattle.bulk_model.specs.Facts.{IsJob};
 
-    ghost view = { λ j. record { name = j.name; origin = j.origin; flavor = j.flavor; options = j.options; depends = j.depends; steps = j.steps; files = j.files } };
+    ghost view = { λ j. record {
+      name = j.name;
+      origin = j.origin;
+      flavor = j.flavor;
+      options = j.options;
+      depends = j.depends;
+      steps = j.steps;
+      files = j.files;
+    } };
 
-    ghost invariant = { λ j. IsJob (record { name = j.name; origin = j.origin; flavor = j.flavor; options = j.options; depends = j.depends; steps = j.steps; files = j.files }) };
+    ghost invariant = { λ j. IsJob (record {
+      name = j.name;
+      origin = j.origin;
+      flavor = j.flavor;
+      options = j.options;
+      depends = j.depends;
+      steps = j.steps;
+      files = j.files;
+    }) };
 }

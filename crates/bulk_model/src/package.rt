@@ -40,9 +40,25 @@ impl Model for Package {
 
     ghost use Rattle.bulk_model.specs.Facts.{IsPackage};
 
-    ghost view = { λ p. record { name = p.name; origin = p.origin; flavor = p.flavor; recipe = p.recipe; options = p.options; depends = p.depends; files = p.files } };
+    ghost view = { λ p. record {
+      name = p.name;
+      origin = p.origin;
+      flavor = p.flavor;
+      recipe = p.recipe;
+      options = p.options;
+      depends = p.depends;
+      files = p.files;
+    } };
 
-    ghost invariant = { λ p. IsPackage (record { name = p.name; origin = p.origin; flavor = p.flavor; recipe = p.recipe; options = p.options; depends = p.depends; files = p.files }) };
+    ghost invariant = { λ p. IsPackage (record {
+      name = p.name;
+      origin = p.origin;
+      flavor = p.flavor;
+      recipe = p.recipe;
+      options = p.options;
+      depends = p.depends;
+      files = p.files;
+    }) };
 }
 
 /// The sum over a package's files of the length of the contents, the length of the path, and 16; the largest 64-bit

@@ -59,9 +59,23 @@ impl Model for Plan {
 
     ghost use Rattle.bulk_model.specs.PlanFacts.{IsPlan};
 
-    ghost view = { λ p. record { jobs = p.jobs; edges = p.edges; ignored = p.ignored; wanted = p.wanted; base = p.base; boosted = p.boosted } };
+    ghost view = { λ p. record {
+      jobs = p.jobs;
+      edges = p.edges;
+      ignored = p.ignored;
+      wanted = p.wanted;
+      base = p.base;
+      boosted = p.boosted;
+    } };
 
-    ghost invariant = { λ p. IsPlan (record { jobs = p.jobs; edges = p.edges; ignored = p.ignored; wanted = p.wanted; base = p.base; boosted = p.boosted }) };
+    ghost invariant = { λ p. IsPlan (record {
+      jobs = p.jobs;
+      edges = p.edges;
+      ignored = p.ignored;
+      wanted = p.wanted;
+      base = p.base;
+      boosted = p.boosted;
+    }) };
 }
 
 /// The package that is kept at each node that has one.

@@ -31,7 +31,8 @@ impl Status {
 /// The least target of some edges that has no package.
 fn least_setback(edges: &[Edge], statuses: &[Status]) -> Option<u32>
     requires { All (λ edge. edge.to < length statuses.now) edges.now }
-    ensures least { result ≡ least_passing (λ d. not (is_good (status_in statuses.now d))) (map (λ edge. edge.to) edges.now) }
+    ensures least { result ≡ least_passing (λ d. not (is_good (status_in statuses.now d)))
+        (map (λ edge. edge.to) edges.now) }
     ensures node { IfSome result (λ d. d < length statuses.now) }
 {
     let mut least = None;

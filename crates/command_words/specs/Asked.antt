@@ -62,10 +62,12 @@ bulk_asked rows =
     else asked.Usage name.Bulk
 
 abbrev pub pkgclean_words : List Row → Asked
-pkgclean_words rows = asked.PkgClean (record { ports = ports_of rows; dry_run = has_flag (codes "dry_run") rows })
+pkgclean_words rows =
+    asked.PkgClean (record { ports = ports_of rows; dry_run = has_flag (codes "dry_run") rows })
 
 abbrev pub pkgclean_asked : List Row → Asked
-pkgclean_asked rows = if are_fit (ports_of rows) then pkgclean_words rows else asked.Usage name.PkgClean
+pkgclean_asked rows =
+    if are_fit (ports_of rows) then pkgclean_words rows else asked.Usage name.PkgClean
 
 abbrev pub matches_asked : Flags → List Row → Asked
 matches_asked OfBulk rows = bulk_asked rows
@@ -78,13 +80,15 @@ name_of OfPkgclean = name.PkgClean
 -- what is read by flags, from the command's name on; usage where clap refuses it
 abbrev pub flags_asked : Flags → List Text → Asked
 flags_asked flags words =
-    option_map_or (matches_asked flags) (read_by (description flags) words) (asked.Usage (name_of flags))
+    option_map_or (matches_asked flags) (read_by (description flags) words)
+    (asked.Usage (name_of flags))
 
 -- ---- the other commands, by the words behind their names
 
 -- just one number
 abbrev pub sample_asked : List Text → Asked
-sample_asked (word ∷ []) = option_map_or (λ number. asked.Sample number) (number_of word) (asked.Usage name.Bulk)
+sample_asked (word ∷ []) =
+    option_map_or (λ number. asked.Sample number) (number_of word) (asked.Usage name.Bulk)
 sample_asked _ = asked.Usage name.Bulk
 
 -- just one word, which does not end in `@all`
@@ -126,4 +130,5 @@ words_asked command rest =
 abbrev pub asked_of : List Text → Asked
 asked_of [] = asked.Usage name.Bulk
 asked_of (command ∷ rest) =
-    option_map_or (λ flags. flags_asked flags (command ∷ rest)) (flags_of command) (words_asked command rest)
+    option_map_or (λ flags. flags_asked flags (command ∷ rest)) (flags_of command)
+    (words_asked command rest)

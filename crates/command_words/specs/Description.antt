@@ -25,7 +25,9 @@ origins_rule = record (new_rule (codes "origins")) {
 
 -- `-a`, `-n` and `-f PATH`, by the letters 97, 110 and 102
 abbrev pub shared_rules : List Rule
-shared_rules = flag_rule (codes "all") 97 ∷ flag_rule (codes "dry_run") 110 ∷ option_rule (codes "list") 102 ∷ []
+shared_rules =
+    flag_rule (codes "all") 97 ∷ flag_rule (codes "dry_run") 110 ∷ option_rule (codes "list") 102
+    ∷ []
 
 -- `-c`, `-C`, `-T` and `-J N`, by the letters 99, 67, 84 and 74
 abbrev pub build_rules : List Rule

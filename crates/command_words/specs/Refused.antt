@@ -33,14 +33,17 @@ NamesNone ports = (ports.all ≡ false) × (ports.list ≡ None) × (ports.origi
 -- clap's matches break a rule that clap does not have
 abbrev pub BreaksARule : Flags → List Row → Type 0
 BreaksARule OfBulk rows =
-    IsNoNumber (first_of (codes "builders") rows) ⊎ (IsAllBeside (ports_of rows) ⊎ NamesNone (ports_of rows))
+    IsNoNumber (first_of (codes "builders") rows)
+    ⊎ (IsAllBeside (ports_of rows) ⊎ NamesNone (ports_of rows))
 BreaksARule OfPkgclean rows = IsAllBeside (ports_of rows) ⊎ NamesNone (ports_of rows)
 
 abbrev pub IsRefused : Flags → List Text → Type 0
-IsRefused flags words = IsFaulty flags words ⊎ BreaksARule flags (matches_of (description flags) words)
+IsRefused flags words =
+    IsFaulty flags words ⊎ BreaksARule flags (matches_of (description flags) words)
 
 -- words that are read by flags are answered by that command's usage exactly where they are refused
 abbrev pub HasUsageWhereRefused : List Text → Asked → Type 0
 HasUsageWhereRefused words found =
-    (command : Text) (rest : List Text) (flags : Flags) → words ≡ command ∷ rest → flags_of command ≡ Some flags
+    (command : Text) (rest : List Text) (flags : Flags) → words ≡ command ∷ rest
+    → flags_of command ≡ Some flags
     → (found ≡ Usage (name_of flags)) ↔ IsRefused flags words

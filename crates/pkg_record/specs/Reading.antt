@@ -44,7 +44,9 @@ Gives view (Err e) read = Fails e read
 
 -- the text of the first line and what follows the line
 abbrev pub line_at : List ℕ → Result (List ℕ × List ℕ) Fault
-line_at bytes = if nat_lt (position_or_len (is_mark 10) bytes) (length bytes) then Ok (front 10 bytes, back 10 bytes) else Err Short
+line_at bytes =
+    if nat_lt (position_or_len (is_mark 10) bytes) (length bytes)
+    then Ok (front 10 bytes, back 10 bytes) else Err Short
 
 abbrev pub fitting : {X : Type 0} → ℕ → List ℕ → Option X → Result (X × List ℕ) Fault
 fitting left rest (Some x) = Ok (x, rest)
@@ -57,7 +59,9 @@ said_at says bytes = line_at bytes >>= λ l. fitting (length bytes) l.1 (says l.
 -- the bytes of a file and the line feed behind them
 abbrev pub piece_at : ℕ → List ℕ → Result (List ℕ × List ℕ) Fault
 piece_at size bytes =
-    if nat_lt size (length bytes) then (if slice_index bytes size == 10 then Ok (take size bytes, drop (size + 1) bytes) else Err (Misfit (length bytes)))
+    if nat_lt size (length bytes)
+    then (if slice_index bytes size == 10 then Ok (take size bytes, drop (size + 1) bytes)
+    else Err (Misfit (length bytes)))
     else Err Short
 
 abbrev pub last_of : {X : Type 0} → List X → Option X
@@ -72,7 +76,8 @@ abbrev pub next_option : List Switch → Switch → Option Switch
 next_option before option = if option_follows (last_of before) option then Some option else None
 
 unfoldable pub option_at : List Switch → List ℕ → Result (Switch × List ℕ) Fault
-option_at before bytes = said_at (λ text. option_and_then (next_option before) (option_said text)) bytes
+option_at before bytes =
+    said_at (λ text. option_and_then (next_option before) (option_said text)) bytes
 
 -- by kind, then node, behind the one before it
 abbrev pub depend_follows : Option Recorded → Recorded → Bool
@@ -83,7 +88,8 @@ abbrev pub next_depend : List Recorded → Recorded → Option Recorded
 next_depend before depend = if depend_follows (last_of before) depend then Some depend else None
 
 unfoldable pub depend_at : Version → List Recorded → List ℕ → Result (Recorded × List ℕ) Fault
-depend_at version before bytes = said_at (λ text. option_and_then (next_depend before) (depend_said version text)) bytes
+depend_at version before bytes =
+    said_at (λ text. option_and_then (next_depend before) (depend_said version text)) bytes
 
 -- by path, behind the one before it, and no path before it is one of its folders
 abbrev pub path_follows : Option FileItem → List ℕ → Bool
@@ -94,7 +100,9 @@ abbrev pub is_record_path : List ℕ → Bool
 is_record_path path = is_text path && is_path path && nat_le (length path) 1018
 
 abbrev pub is_next_path : List FileItem → List ℕ → Bool
-is_next_path before path = is_record_path path && path_follows (last_of before) path && list_all (λ folder. not (is_below folder path)) (paths_of before)
+is_next_path before path =
+    is_record_path path && path_follows (last_of before) path
+    && list_all (λ folder. not (is_below folder path)) (paths_of before)
 
 abbrev pub next_file : List FileItem → ℕ × List ℕ → Option (ℕ × List ℕ)
 next_file before file = if is_next_path before file.1 then Some file else None
@@ -106,20 +114,23 @@ file_at before bytes = do
   Ok (record { path = head.0.1; bytes = piece.0 }, piece.1)
 
 -- so many items, each read behind those before it
-unfoldable pub items_at : {X : Type 0} → (List X → List ℕ → Result (X × List ℕ) Fault) → ℕ → List X → List ℕ → Result (List X × List ℕ) Fault
+unfoldable pub items_at : {X : Type 0} → (List X → List ℕ → Result (X × List ℕ) Fault) → ℕ → List X
+    → List ℕ → Result (List X × List ℕ) Fault
 items_at item zero before bytes = Ok (before, bytes)
 items_at item (suc n) before bytes = do
   x ← item before bytes
   items_at item n (before ++ x.0 ∷ []) x.1
 
 -- a line with a count, and so many items
-unfoldable pub listed_at : {X : Type 0} → List ℕ → (List X → List ℕ → Result (X × List ℕ) Fault) → List ℕ → Result (List X × List ℕ) Fault
+unfoldable pub listed_at : {X : Type 0} → List ℕ → (List X → List ℕ → Result (X × List ℕ) Fault)
+    → List ℕ → Result (List X × List ℕ) Fault
 listed_at heading item bytes = do
   count ← said_at (count_behind heading) bytes
   items_at item count.0 [] count.1
 
 -- the options, dependencies and files, and what follows them
-abbrev pub lists_at : Version → List ℕ → Result (List Switch × List Recorded × List FileItem × List ℕ) Fault
+abbrev pub lists_at : Version → List ℕ
+    → Result (List Switch × List Recorded × List FileItem × List ℕ) Fault
 lists_at version bytes = do
   options ← listed_at (codes "options ") option_at bytes
   depends ← listed_at (codes "depends ") (depend_at version) options.1
@@ -131,7 +142,8 @@ unfoldable pub recipe_at : Version → List ℕ → Result (Digest × List ℕ) 
 recipe_at One bytes = Ok (no_digest, bytes)
 recipe_at Two bytes = said_at recipe_said bytes
 
-abbrev pub package_told : List ℕ → List ℕ → Option (List ℕ) → Digest → List Switch → List Recorded → List FileItem → PackageView
+abbrev pub package_told : List ℕ → List ℕ → Option (List ℕ) → Digest → List Switch → List Recorded
+    → List FileItem → PackageView
 package_told name origin flavor recipe options depends files = record {
   name = name;
   origin = origin;

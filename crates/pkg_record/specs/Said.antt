@@ -22,7 +22,8 @@ use Rattle.port_name.specs.PackageForm.{is_package_name}
 
 -- what follows a heading
 abbrev pub behind : List ℕ → List ℕ → Option (List ℕ)
-behind heading text = if starts_with nat_eq text heading then Some (drop (length heading) text) else None
+behind heading text =
+    if starts_with nat_eq text heading then Some (drop (length heading) text) else None
 
 abbrev pub passing : (List ℕ → Bool) → List ℕ → Option (List ℕ)
 passing test text = if test text then Some text else None
@@ -43,31 +44,40 @@ digest bytes = record { bytes = bytes }
 
 -- the digest of which this is the text
 unfoldable pub digest_said : List ℕ → Option Digest
-digest_said text = if is_digest text then option_map digest (result_ok (decode_sized text 32)) else None
+digest_said text =
+    if is_digest text then option_map digest (result_ok (decode_sized text 32)) else None
 
 abbrev pub recipe_said : List ℕ → Option Digest
 recipe_said text = option_and_then digest_said (behind (codes "recipe ") text)
 
 -- `-` where there is none
 abbrev pub flavor_of : List ℕ → Option (Option (List ℕ))
-flavor_of word = if bytes_eq word (codes "-") then Some None else option_map (λ flavor. Some flavor) (passing is_flavor word)
+flavor_of word =
+    if bytes_eq word (codes "-") then Some None
+    else option_map (λ flavor. Some flavor) (passing is_flavor word)
 
 abbrev pub flavor_said : List ℕ → Option (Option (List ℕ))
 flavor_said text = option_and_then flavor_of (behind (codes "flavor ") text)
 
 -- decimal digits without a leading zero
 abbrev pub is_numeral : List ℕ → Bool
-is_numeral digits = list_all is_ascii_digit digits && nat_lt 0 (length digits) && ((length digits == 1) || not (slice_index digits 0 == 48))
+is_numeral digits =
+    list_all is_ascii_digit digits && nat_lt 0 (length digits)
+    && ((length digits == 1) || not (slice_index digits 0 == 48))
 
 -- their value, below 2 ^ 64
 abbrev pub count_of : List ℕ → Option ℕ
-count_of digits = if is_numeral digits && nat_lt (digits_value 10 digits) (2 ^ 64) then Some (digits_value 10 digits) else None
+count_of digits =
+    if is_numeral digits && nat_lt (digits_value 10 digits) (2 ^ 64)
+    then Some (digits_value 10 digits) else None
 
 abbrev pub count_behind : List ℕ → List ℕ → Option ℕ
 count_behind heading text = option_and_then count_of (behind heading text)
 
 abbrev pub switch_of : List ℕ → Option Bool
-switch_of word = if bytes_eq word (codes "on") then Some true else if bytes_eq word (codes "off") then Some false else None
+switch_of word =
+    if bytes_eq word (codes "on") then Some true else if bytes_eq word (codes "off") then Some false
+    else None
 
 abbrev pub switch : List ℕ → Bool → Switch
 switch name on = record { name = name; on = on }
@@ -102,7 +112,8 @@ mark_in One words = Some (words, no_digest)
 mark_in Two words = option_map (λ digest. (front 32 words, digest)) (digest_said (back 32 words))
 
 abbrev pub noted : DepKind → List ℕ → List ℕ × Digest → Option Recorded
-noted kind node mark = if is_node node && is_package_name mark.0 then Some (recorded kind node mark.0 mark.1) else None
+noted kind node mark =
+    if is_node node && is_package_name mark.0 then Some (recorded kind node mark.0 mark.1) else None
 
 abbrev pub named_depend : Version → List ℕ → List ℕ → DepKind → Option Recorded
 named_depend version node words kind = option_and_then (noted kind node) (mark_in version words)
@@ -110,7 +121,8 @@ named_depend version node words kind = option_and_then (noted kind node) (mark_i
 -- a kind, a node and what is told of its package, with spaces between
 abbrev pub depend_in : Version → List ℕ → Option Recorded
 depend_in version words =
-    option_and_then (named_depend version (front 32 (back 32 words)) (back 32 (back 32 words))) (kind_of (front 32 words))
+    option_and_then (named_depend version (front 32 (back 32 words)) (back 32 (back 32 words)))
+    (kind_of (front 32 words))
 
 abbrev pub depend_said : Version → List ℕ → Option Recorded
 depend_said version text = option_and_then (depend_in version) (behind (codes "depend ") text)

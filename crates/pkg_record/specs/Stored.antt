@@ -18,12 +18,14 @@ name_told (Old name) = name
 
 -- what a file of a name may hold: the record that is read from it, where the file is named after the record's name
 abbrev pub own_record : List ℕ → Result Record RecordError → Option Record
-own_record file (Ok told) = if bytes_eq file (package_file (name_told told)) then Some told else None
+own_record file (Ok told) =
+    if bytes_eq file (package_file (name_told told)) then Some told else None
 own_record file (Err error) = None
 
 -- the record that a file holds, if it is readable
 abbrev pub record_in : Contents → List ℕ → Option Record
-record_in content file = option_and_then (λ bytes. own_record file (record_of bytes)) (get content file)
+record_in content file =
+    option_and_then (λ bytes. own_record file (record_of bytes)) (get content file)
 
 -- a package is read from a record of version 2 alone
 abbrev pub package_of : Record → Option PackageView
@@ -41,7 +43,8 @@ package_files content = filter is_package_file (keys content)
 
 -- the readable packages, in the order of their files' names
 abbrev pub packages_in : Contents → List PackageView
-packages_in content = filter_map (λ file. option_and_then package_of (record_in content file)) (package_files content)
+packages_in content =
+    filter_map (λ file. option_and_then package_of (record_in content file)) (package_files content)
 
 -- the files with a record of version 1
 abbrev pub old_in : Contents → List (List ℕ)

@@ -39,5 +39,6 @@ pub record HasRecipe (base : List FileItem) (job : JobView) : Type 0 where
 -- different pairs of base files and a job have recipes of different texts
 abbrev pub EachHasItsText : Type 0
 EachHasItsText =
-    (base other : List FileItem) (job another : JobView) → HasRecipe base job → HasRecipe other another
+    (base other : List FileItem) (job another : JobView) → HasRecipe base job
+    → HasRecipe other another
     → recipe_text base job ≡ recipe_text other another → (base ≡ other) × (job ≡ another)

@@ -20,7 +20,8 @@ pub record IsThere (content : Contents) (p : PackageView) : Type 0 where
 
 -- just these are the packages of a content
 abbrev pub PackagesAreThere : Type 0
-PackagesAreThere = (content : Contents) (p : PackageView) → Contains (packages_in content) p ↔ IsThere content p
+PackagesAreThere =
+    (content : Contents) (p : PackageView) → Contains (packages_in content) p ↔ IsThere content p
 
 -- no two of them have one name
 abbrev pub PackagesHaveNames : Type 0
@@ -33,7 +34,8 @@ IsOfAnotherName content name q = Contains (packages_in content) q × (q.name ≢
 abbrev pub PutsArePackages : Type 0
 PutsArePackages =
     (content : Contents) (p : PackageView) → HasRecord Two p
-    → (q : PackageView) → Contains (packages_in (insert content (package_file p.name) (spelling p))) q
+    → (q : PackageView) → Contains
+    (packages_in (insert content (package_file p.name) (spelling p))) q
     ↔ ((q ≡ p) ⊎ IsOfAnotherName content p.name q)
 
 -- after the removal of a package's file they are those of other names
@@ -46,9 +48,11 @@ RemovalsLeaveOthers =
 abbrev pub OtherPutsLeaveAll : Type 0
 OtherPutsLeaveAll =
     (content : Contents) (file bytes : List ℕ) → is_package_file file ≡ false
-    → (q : PackageView) → Contains (packages_in (insert content file bytes)) q ↔ Contains (packages_in content) q
+    → (q : PackageView) → Contains (packages_in (insert content file bytes)) q
+    ↔ Contains (packages_in content) q
 
 abbrev pub OtherRemovalsLeaveAll : Type 0
 OtherRemovalsLeaveAll =
     (content : Contents) (file : List ℕ) → is_package_file file ≡ false
-    → (q : PackageView) → Contains (packages_in (remove content file)) q ↔ Contains (packages_in content) q
+    → (q : PackageView) → Contains (packages_in (remove content file)) q
+    ↔ Contains (packages_in content) q
