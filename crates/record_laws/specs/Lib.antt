@@ -1,3 +1,4 @@
 pub mod Records
 pub mod Stores
 pub mod Recipes
+pub mod Units
