@@ -7,7 +7,9 @@ ghost use Rattle.bulk_run.specs.RoomBuild.{packed_alone};
 ghost use Rattle.bulk_model.specs.Baked.{IsOutcomeOf};
 
 use bulk_base::{Files, NoMemory, Sequence, copy_of, switch_copies};
-use bulk_model::{Depends, Digest, Job, Outcome, Package, Phase, Recorded, Recordeds, Shared, weight};
+use bulk_model::{
+    Depends, Digest, Job, Outcome, Package, Phase, Recorded, Recordeds, Shared, weight,
+};
 use pkg_record::recipe;
 use std::alloc::Global;
 

@@ -48,7 +48,7 @@ pub(crate) fn run_phases<R: Room>(
 ) -> Result<Option<Stop>, Outer>
     ensures told { IsTrue R.Ways.tells → IfOk result (λ stop.
         bake.run_phases R.Ways.runs (packed_alone job.now) (phases_of job.now.steps) (R.folder room.old)
-            ≡ outcome_after job.now stop (R.folder room.new)) }
+        ≡ outcome_after job.now stop (R.folder room.new)) }
     ensures begun { R.begun room.new ≡ R.begun room.old }
     ensures cause { HasCause (R.faults room.old) (R.faults room.new) result }
 {

@@ -50,11 +50,14 @@ fn limit_name(which: Which) -> &'static str {
         Which::FileBytes => "Limit FileBytes ",
         Which::Options => "Limit Options ",
         Which::Depends => "Limit Depends ",
+        Which::VarsBytes => "Limit VarsBytes ",
         Which::Nodes => "Limit Nodes ",
         Which::PlanNodes => "Limit PlanNodes ",
         Which::JobBytes => "Limit JobBytes ",
+        Which::DistBytes => "Limit DistBytes ",
         Which::StoreNames => "Limit StoreNames ",
         Which::StoreBytes => "Limit StoreBytes ",
+        Which::Generations => "Limit Generations ",
     }
 }
 
