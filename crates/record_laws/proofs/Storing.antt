@@ -1,5 +1,5 @@
 -- The packages of a content, by the files that are named after them.
-use Rattle.std.proofs.Common.{◌≡◌, ◌≢◌, ◌↔◌, ◌⊎◌, ℕ, Bool, true, false, List, [], refl, ap, sym, subst, ◌∙◌, inl, inr, cond}
+use Rattle.std.proofs.Common.{◌≡◌, ◌≢◌, ◌↔◌, ◌⊎◌, ℕ, Bool, true, false, List, refl, ap, sym, subst, ◌∙◌, inl, inr, cond}
 use Rattle.std.specs.Prelude.{Option, Some, None, is_some, bytes_eq, Result, Ok, Err, Contains, filter}
 use Rattle.std.specs.List.{filter_map}
 use Rattle.std.specs.Option.{option_and_then}
@@ -11,7 +11,7 @@ use Rattle.std.proofs.lemmas.Bool.{true≢false, false_from_ne_true}
 use Rattle.std.proofs.lemmas.Map.Text.{is_eq-slice_cmp}
 use Rattle.std.proofs.lemmas.Slice.Eq.{bytes_eq-Decides}
 use Rattle.outside.specs.Contents.{Contents}
-use Rattle.bulk_base.proofs.Members.{Member, any_member, filter_into, filter_out_of, Given, filter_map_given, given_filter_map}
+use Rattle.bulk_base.proofs.Members.{Member, any_member, filter_into, Given, filter_map_given, given_filter_map}
 use Rattle.bulk_model.specs.declared.version.Version.TheVariants.{Two}
 use Rattle.bulk_model.specs.FileNames.{package_file, is_package_file}
 use Rattle.bulk_model.specs.Spelling.{spelling}
