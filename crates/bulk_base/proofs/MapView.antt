@@ -43,6 +43,10 @@ view-remove m n k h = same_map nat_list_cmp_total same_keys _ _ (λ q.
     sym (get-view q n) ∙ h.0 q ∙ ap (λ b. cond b None (tree.get order m q)) (turned k q) ∙ ap (cond (eq_by_cmp order q k) None) (get-view q m)
     ∙ sym (get-remove nat_list_cmp_total (view m.entries) k q))
 
+twice : {A : Type 0} (b : Bool) (x y z : A) → cond b x (cond b y z) ≡ cond b x z
+twice true x y z = refl
+twice false x y z = refl
+
 -- keys that strictly rise are the keys of the finite map
 below_all-from : {X : Type 0} (k : List ℕ) (es : List (List ℕ × X)) → AllByRecursion (λ y. order k y ≡ Less) (map (λ e. e.0) es) → below_all order k es ≡ true
 below_all-from k [] h = refl
@@ -109,3 +113,9 @@ none_so_far (x ∷ done) rest k v h =
 -- a map with one more entry behind all
 pub view-push : {X : Type 0} (done rest : List (List ℕ × X)) (k : List ℕ) (v : X) → IsStrictlySortedBy order (map (λ e. e.0) (done ++ (k, v) ∷ rest)) → view (done ++ (k, v) ∷ []) ≡ insert (view done) k v
 view-push done rest k v h = from_entries_push nat_list_cmp_total same_keys done k v (none_so_far done rest k v h)
+
+-- what is taken out and put back
+pub insert-remove : {X : Type 0} (m : FinMap order X) (k : List ℕ) (v : X) → insert (remove m k) k v ≡ insert m k v
+insert-remove m k v = same_map nat_list_cmp_total same_keys _ _ (λ q.
+    get-insert nat_list_cmp_total (remove m k) k v q ∙ ap (cond (eq_by_cmp order q k) (Some v)) (get-remove nat_list_cmp_total m k q)
+    ∙ twice (eq_by_cmp order q k) (Some v) None (get m q) ∙ sym (get-insert nat_list_cmp_total m k v q))

@@ -1,5 +1,5 @@
 // Text in form: UTF-8 without NUL and line feed.
-ghost use Rattle.std.specs.Prelude.{◌≡◌, ◌↔◌, ◌≤◌, ◌-◌, length, take, drop, IsTrue, IfOk, OnOk, IsErrOf, bytes_eq};
+ghost use Rattle.std.specs.Prelude.{◌≡◌, ◌↔◌, ◌≤◌, ◌-◌, ◌++◌, length, take, drop, IsTrue, IfOk, OnOk, OnErr, IsErrOf, bytes_eq};
 ghost use Rattle.std.specs.String.{string_bytes};
 ghost use Rattle.std.specs.Str.{IsCharBoundary};
 ghost use Rattle.bulk_base.specs.Text.{IsText};
@@ -128,6 +128,14 @@ impl Text {
         Ok(Text {
             text: String::from_str(alloc, &self.text.as_str()[from..to])?,
         })
+    }
+
+    /// Puts another text at the end; on an error the text is as it was. Over many calls it costs the length of what is put.
+    pub fn append(&mut self, other: &Text) -> Result<(), NoMemory>
+        ensures ok { OnOk result (self.new ≡ self.old ++ other.now) }
+        ensures err { OnErr result (self.new ≡ self.old) }
+    {
+        self.text.push_str(other.as_str())
     }
 
     /// Another text with the same bytes.

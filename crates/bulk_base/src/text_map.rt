@@ -48,6 +48,14 @@ impl<V> TextMap<V> {
         self.entries.get(key)
     }
 
+    /// Takes a text's value out of the map; None where there is none. A look-up.
+    pub fn take(&mut self, key: &Text) -> Option<V>
+        ensures value { result ≡ map.get self.old key.now }
+        ensures rest { self.new ≡ map.remove self.old key.now }
+    {
+        self.entries.remove(key)
+    }
+
     /// All texts that have a value, in byte order.
     pub fn keys(&self, alloc: Global) -> Result<Texts, NoMemory>
         ensures { IfOk result (λ keys. keys ≡ map.keys self.now) }
