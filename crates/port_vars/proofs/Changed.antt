@@ -12,6 +12,8 @@ use Rattle.port_vars.specs.Assignment.{Assignment, changed, value_by, within}
 use Rattle.port_vars.specs.Variables.{Vars, after}
 use Rattle.port_vars.specs.Assignment.{mapped}
 use Rattle.std.specs.FinMap as map
+use Rattle.bulk_base.proofs.MapView.{insert-remove}
+use Rattle.port_vars.specs.Answers.{fitting, given}
 use Rattle.port_vars.proofs.TextParts.{IsText-append, IsText-byte}
 use Rattle.port_vars.proofs.Decided.{le_false}
 
@@ -65,7 +67,14 @@ first_bytes_do limit vars name operator text =
     ∙ alike_done limit vars name _ _ (changed_alike limit operator (map.get vars name) (take (limit + 1) text) text (first_alike limit text))
     ∙ sym (done_is limit vars (by_text name operator text))
 
--- while nothing is cut off, what is appended is a text
-pub appended_is_text : (most : ℕ) (value text new : List ℕ) → new ≡ (value ++ 32 ∷ []) ++ text → IsText value → (length text < most → IsText text) → length new < most → IsText new
-appended_is_text most value text new e h k short =
-    rw e (IsText-append (value ++ 32 ∷ []) text (IsText-append value (32 ∷ []) h (IsText-byte 32 (Rattle.std.proofs.Common.lit< tt) refl)) (k (omega (arith, ap length e, length-append (value ++ 32 ∷ []) text))))
+-- while nothing is cut off, a text behind a space is a text
+pub spaced_is_text : (most : ℕ) (text new : List ℕ) → new ≡ 32 ∷ text → (length text < most → IsText text) → length new < most → IsText new
+spaced_is_text most text new e k short =
+    rw e (IsText-append (32 ∷ []) text (IsText-byte 32 (Rattle.std.proofs.Common.lit< tt) refl) (k (omega (arith, ap length e))))
+
+-- a value that leaves the map, grows and comes back
+pub put_back : (limit : ℕ) (vars rest : Vars) (name old new text : List ℕ) → rest ≡ map.remove vars name → changed Append (Some old) text ≡ changed Append (map.get vars name) text
+    → fitting limit (changed Append (Some old) text) ≡ Ok new → given limit vars name Append text ≡ Ok (map.insert rest name new)
+put_back limit vars rest name old new text r same h =
+    ap (λ value. mapped (map.insert vars name) (fitting limit value)) (sym same) ∙ ap (mapped (map.insert vars name)) h
+    ∙ ap Ok (sym (insert-remove vars name new) ∙ ap (λ m. map.insert m name new) (sym r))

@@ -1,6 +1,6 @@
 -- What the loop over a file's joined lines keeps.
 use Rattle.std.proofs.Common.{◌≡◌, ℕ, ◌+◌, ◌≤◌, ◌<◌, Bool, not, List, [], ◌∷◌, length, get_or, drop, cond, ap, sym, ◌∙◌, refl, Option, Some, None, Result, Ok, Err}
-use Rattle.std.specs.Prelude.{bytes_eq, IfOk}
+use Rattle.std.specs.Prelude.{bytes_eq}
 use Rattle.std.specs.Ordering.{nat_cmp, eq_by_cmp}
 use Rattle.std.specs.Cmp.{eq_by_cmp_equiv}
 use Rattle.std.specs.Cmp.Lexicographic.{slice_cmp, nat_list_cmp_total, texts_ties}
@@ -16,7 +16,7 @@ use Rattle.port_vars.specs.declared.joined.Line.{Line}
 use Rattle.port_vars.specs.declared.limits.Limits.{Limits}
 use Rattle.port_vars.specs.Joined.{joined}
 use Rattle.port_vars.specs.Assignment.{Assignment, value_by, said, mapped}
-use Rattle.port_vars.specs.Variables.{Vars, value_after, variables, after, after_line, at_line, assignments_from, assignments, variables_within, small, value_where, value_in}
+use Rattle.port_vars.specs.Variables.{Vars, value_after, variables, after, after_line, at_line, assignments_from, assignments, variables_within, value_where, value_within}
 use Rattle.port_vars.specs.Answers.{LeavesAt}
 use Rattle.port_vars.proofs.Decided.{le_true, le_false}
 
@@ -116,10 +116,5 @@ value_case : (r : Result (List Assignment) VarsError) (vars : Vars) (name : List
 value_case (Ok all) vars name h = let same : variables all ≡ vars = cc in ap (λ m. map.get m name) (sym same) ∙ get-variables all name
 value_case (Err fault) vars name h = cc
 
-pub values_of : (limits : Limits) (bytes : List ℕ) (vars : Vars) → variables_within limits bytes ≡ Ok vars → (name : List ℕ) → map.get vars name ≡ value_where (assignments limits bytes) name
-values_of limits bytes vars h name = value_case (assignments limits bytes) vars name h
-
-pub each_value : (bytes : List ℕ) (r : Result Vars VarsError) → IfOk r (λ vars. variables_within small bytes ≡ Ok vars) → IfOk r (λ vars. (name : List ℕ) → map.get vars name ≡ value_in bytes name)
-unfolding value_in
-each_value bytes (Ok vars) h = values_of small bytes vars h
-each_value bytes (Err fault) h = tt
+pub each_value : (limits : Limits) (bytes : List ℕ) (vars : Vars) → variables_within limits bytes ≡ Ok vars → (name : List ℕ) → map.get vars name ≡ value_within limits bytes name
+each_value limits bytes vars h name = value_case (assignments limits bytes) vars name h

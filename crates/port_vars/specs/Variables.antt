@@ -68,15 +68,31 @@ variables_within limits bytes = mapped variables (assignments limits bytes)
 abbrev pub small : Limits
 small = record { file = 65536; line = 8192; value = 8192 }
 
+-- the limits of the files that list categories and ports
+abbrev pub large : Limits
+large = record { file = 1048576; line = 1048576; value = 1048576 }
+
 -- the variables of a file, or its first fault
 unfoldable pub variables_of : List ℕ → Result Vars VarsError
 variables_of bytes = variables_within small bytes
+
+-- the same of a file that lists categories or ports
+unfoldable pub list_variables_of : List ℕ → Result Vars VarsError
+list_variables_of bytes = variables_within large bytes
 
 -- the values of variables, none where there is a fault
 abbrev pub value_where : Result (List Assignment) VarsError → Values
 value_where (Ok all) name = value_after all name
 value_where (Err fault) name = None
 
--- the value of a name in a file: what all its assignments give it
+-- the value of a name in a file within limits: what all its assignments give it
+abbrev pub value_within : Limits → List ℕ → Values
+value_within limits bytes name = value_where (assignments limits bytes) name
+
+-- the value of a name in a file
 unfoldable pub value_in : List ℕ → Values
-value_in bytes name = value_where (assignments small bytes) name
+value_in bytes name = value_within small bytes name
+
+-- the same in a file that lists categories or ports
+unfoldable pub list_value_in : List ℕ → Values
+list_value_in bytes name = value_within large bytes name

@@ -6,7 +6,7 @@ ghost use Rattle.bulk_base.specs.Text.{IsText};
 ghost use Rattle.port_vars.specs.Reference.{is_name};
 ghost use Rattle.port_vars.specs.Assignment.{changed, within, assigned, readable, stated, said, mapped};
 ghost use Rattle.port_vars.specs.Variables.{after, after_line};
-ghost use Rattle.port_vars.specs.Answers.{Answers, Leaves};
+ghost use Rattle.port_vars.specs.Answers.{Answers, Leaves, fitting, given};
 
 use crate::comment::uncommented;
 use crate::fault::{LineError, LineKind};
@@ -15,41 +15,89 @@ use crate::name::{is_name, name_of};
 use crate::operator::{Operator, operator_of};
 use crate::piece::place_of;
 use crate::reference::expanded;
-use bulk_base::{Bytes, NoMemory, Sequence, Text, TextError, TextMap, trim};
+use bulk_base::{Bytes, NoMemory, Sequence, Text, TextError, TextMap, copy_of, trim};
 use std::alloc::Global;
 
-/// A value with a text behind it, a space between; the text alone where the value is empty.
-fn appended(alloc: Global, value: &Text, text: &[u8]) -> Result<Bytes, NoMemory>
-    ensures value { IfOk result (λ new. new ≡ changed Operator.Append (Some value.now) text.now) }
-    ensures form { (most : ℕ) → (length text.now < most → IsText text.now) → IfOk result (λ new. length new < most → IsText new) }
+/// What is put behind a value to append a text: a space and the text; the text alone where the value is empty.
+fn piece_behind(alloc: Global, value: &Text, text: &[u8]) -> Result<Bytes, NoMemory>
+    ensures value { IfOk result (λ piece.
+        value.now ++ piece ≡ changed Operator.Append (Some value.now) text.now) }
+    ensures form { (most : ℕ) → (length text.now < most → IsText text.now)
+        → IfOk result (λ piece. length piece < most → IsText piece) }
 {
-    let bytes = value.bytes();
-    if bytes.is_empty() {
+    if value.bytes().is_empty() {
         return Sequence::from_slice(alloc, text);
     }
-    let mut new = Vec::from_slice(alloc, bytes)?;
-    new.push(b' ')?;
-    new.extend_from_slice(text)?;
-    Ok(Sequence::from_vec(new))
+    let mut piece = Vec::from_slice(alloc, b" ")?;
+    piece.extend_from_slice(text)?;
+    Ok(Sequence::from_vec(piece))
 }
 
-/// The value of a variable after an assignment.
-fn changed(
-    alloc: Global,
-    operator: Operator,
-    before: Option<&Text>,
-    text: &[u8],
-) -> Result<Bytes, NoMemory>
-    ensures value { IfOk result (λ new. new ≡ changed operator (option_copied before.entry) text.now) }
-    ensures form { (most : ℕ) → (length text.now < most → IsText text.now) → IfOk result (λ new. length new < most → IsText new) }
+/// Appends a text to a value. TooLong exactly where it would have more than `limit` bytes. Its cost is the text's length.
+fn append(alloc: Global, limit: u32, value: &mut Text, text: &[u8]) -> Result<(), LineError>
+    requires { length text.now < limit + 1 → IsText text.now }
+    ensures { Leaves (fitting limit (changed Operator.Append (Some value.old) text.now)) result value.new }
 {
-    match before {
-        None => Sequence::from_slice(alloc, text),
-        Some(value) => match operator {
-            Operator::Set => Sequence::from_slice(alloc, text),
-            Operator::Append => appended(alloc, value, text),
-            Operator::Default => Sequence::from_slice(alloc, value.bytes()),
-        },
+    let piece = piece_behind(alloc, value, text)?;
+    if value.bytes().len() + piece.len() > limit as usize {
+        return Err(LineError::Bad(LineKind::TooLong));
+    }
+    value.append(&Text::of(alloc, piece.as_slice())?)?;
+    Ok(())
+}
+
+/// Appends a text to a variable's value, which leaves the map and comes back, so that a list of many lines costs its length.
+fn append_to(
+    alloc: Global,
+    limit: u32,
+    name: Text,
+    text: &[u8],
+    vars: &mut TextMap<Text>,
+) -> Result<(), LineError>
+    requires { length text.now < limit + 1 → IsText text.now }
+    ensures { Leaves (given limit vars.old name Operator.Append text.now) result vars.new }
+{
+    let mut value = match vars.take(&name) {
+        Some(value) => value,
+        None => Text::literal(alloc, b"")?,
+    };
+    append(alloc, limit, &mut value, text)?;
+    vars.insert(name, value)?;
+    Ok(())
+}
+
+/// Gives a variable a value. TooLong exactly where it has more than `limit` bytes.
+fn put(
+    alloc: Global,
+    limit: u32,
+    name: Text,
+    value: &[u8],
+    vars: &mut TextMap<Text>,
+) -> Result<(), LineError>
+    requires { length value.now < limit + 1 → IsText value.now }
+    ensures { Leaves (mapped (map.insert vars.old name) (fitting limit value.now)) result vars.new }
+{
+    if value.len() > limit as usize {
+        return Err(LineError::Bad(LineKind::TooLong));
+    }
+    vars.insert(name, Text::of(alloc, value)?)?;
+    Ok(())
+}
+
+/// Gives a variable a value where it has none. TooLong exactly where its value has more than `limit` bytes.
+fn put_default(
+    alloc: Global,
+    limit: u32,
+    name: Text,
+    text: &[u8],
+    vars: &mut TextMap<Text>,
+) -> Result<(), LineError>
+    requires { length text.now < limit + 1 → IsText text.now }
+    ensures { Leaves (given limit vars.old name Operator.Default text.now) result vars.new }
+{
+    match copy_of(alloc, vars.get(&name))? {
+        Some(value) => put(alloc, limit, name, value.bytes(), vars),
+        None => put(alloc, limit, name, text, vars),
     }
 }
 
@@ -69,13 +117,11 @@ fn assign(
         result vars.new }
 {
     let name = Text::of(alloc, name)?;
-    let value = changed(alloc, operator, vars.get(&name), text)?;
-    if value.len() > limit as usize {
-        return Err(LineError::Bad(LineKind::TooLong));
+    match operator {
+        Operator::Set => put(alloc, limit, name, text, vars),
+        Operator::Append => append_to(alloc, limit, name, text, vars),
+        Operator::Default => put_default(alloc, limit, name, text, vars),
     }
-    let value = Text::of(alloc, value.as_slice())?;
-    vars.insert(name, value)?;
-    Ok(())
 }
 
 /// Makes the assignment that a statement states.
@@ -123,8 +169,8 @@ fn readable(alloc: Global, limit: u32, line: &[u8]) -> Result<Text, LineError>
     Ok(text)
 }
 
-/// Makes the assignment that a joined line states, if any. Its cost is the length of the line and of the variable's value
-/// after it, and a look-up for each name in it.
+/// Makes the assignment that a joined line states, if any. Its cost is the length of the line and of the values that it
+/// refers to, and a look-up for each name in it.
 pub(crate) fn take_line(
     alloc: Global,
     limits: Limits,

@@ -15,4 +15,4 @@ mod vars;
 
 pub use fault::{LineKind, VarsError};
 pub use value_words::words_in;
-pub use vars::{Vars, read_vars};
+pub use vars::{Vars, read_list, read_vars};

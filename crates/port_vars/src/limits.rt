@@ -14,3 +14,10 @@ pub(crate) const SMALL: Limits = Limits {
     line: 8_192,
     value: 8_192,
 };
+
+/// The limits of the files that list categories and ports.
+pub(crate) const LARGE: Limits = Limits {
+    file: 1_048_576,
+    line: 1_048_576,
+    value: 1_048_576,
+};

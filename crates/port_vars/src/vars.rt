@@ -3,13 +3,13 @@ ghost use Rattle.std.specs.Prelude.{◌≡◌, ◌≢◌, ◌<◌, ◌^◌, ℕ,
 ghost use Rattle.std.specs.Option.{option_copied};
 ghost use Rattle.std.specs.FinMap as map;
 ghost use Rattle.port_vars.specs.Assignment.{mapped, said};
-ghost use Rattle.port_vars.specs.Variables.{after_line, variables_within, variables_of, value_in};
+ghost use Rattle.port_vars.specs.Variables.{after_line, variables_within, value_within, variables_of, value_in, list_variables_of, list_value_in};
 ghost use Rattle.port_vars.specs.Answers.{LeavesAt};
 
 use crate::assignment::take_line;
 use crate::fault::{LineError, LineKind, VarsError};
 use crate::joined::{Line, joined};
-use crate::limits::{Limits, SMALL};
+use crate::limits::{LARGE, Limits, SMALL};
 use bulk_base::{Text, TextMap};
 use std::alloc::Global;
 use std::marker::Model;
@@ -65,7 +65,10 @@ fn take_numbered(
 /// Reads a variable file within limits.
 fn read_within(alloc: Global, limits: Limits, bytes: &[u8]) -> Result<Vars, VarsError>
     ensures ok { IfOk result (λ vars. variables_within limits bytes.now ≡ Ok vars) }
-    ensures bad_line { IfErr result (λ e. e ≢ VarsError.NoMemory → variables_within limits bytes.now ≡ Err e) }
+    ensures bad_line { IfErr result (λ e. e ≢ VarsError.NoMemory
+        → variables_within limits bytes.now ≡ Err e) }
+    ensures value { IfOk result (λ vars. (name : List ℕ)
+        → map.get vars name ≡ value_within limits bytes.now name) }
 {
     if bytes.len() > limits.file as usize {
         return Err(VarsError::BadLine {
@@ -87,13 +90,26 @@ fn read_within(alloc: Global, limits: Limits, bytes: &[u8]) -> Result<Vars, Vars
 /// BadLine exactly where the file is outside the grammar, with the number of the first line that is and what is wrong with
 /// it first in the order of the rules: 0 and TooLong where the file has too many bytes. NoMemory for want of memory alone.
 ///
-/// Each byte is looked at a fixed number of times; a line costs the length of its variable's value, and a look-up of
-/// O(log n) comparisons for each name in it. Besides the variables, one copy of the file and of one value are held.
-#[tactic(auto, using(crate::proofs::ReadSoFar::each_value), unfolding(crate::specs::Variables::variables_of))]
+/// Each byte is looked at a fixed number of times; a line costs its length and that of the values that it refers to, and a
+/// look-up of O(log n) comparisons for each name in it. Besides the variables, one copy of the file and of one value are held.
+#[tactic(auto, unfolding(crate::specs::Variables::variables_of, crate::specs::Variables::value_in))]
 pub fn read_vars(alloc: Global, bytes: &[u8]) -> Result<Vars, VarsError>
     ensures ok { IfOk result (λ vars. variables_of bytes.now ≡ Ok vars) }
     ensures bad_line { IfErr result (λ e. e ≢ VarsError.NoMemory → variables_of bytes.now ≡ Err e) }
     ensures value { IfOk result (λ vars. (name : List ℕ) → map.get vars name ≡ value_in bytes.now name) }
 {
     read_within(alloc, SMALL, bytes)
+}
+
+/// Reads a variable file that lists categories or ports: the same grammar, faults and cost as `read_vars`, with 1,048,576
+/// bytes at most for the file, for a joined line and for a value (docs/FORMATS.md, "Variable files").
+#[tactic(auto, unfolding(crate::specs::Variables::list_variables_of, crate::specs::Variables::list_value_in))]
+pub fn read_list(alloc: Global, bytes: &[u8]) -> Result<Vars, VarsError>
+    ensures ok { IfOk result (λ vars. list_variables_of bytes.now ≡ Ok vars) }
+    ensures bad_line { IfErr result (λ e. e ≢ VarsError.NoMemory
+        → list_variables_of bytes.now ≡ Err e) }
+    ensures value { IfOk result (λ vars. (name : List ℕ)
+        → map.get vars name ≡ list_value_in bytes.now name) }
+{
+    read_within(alloc, LARGE, bytes)
 }

@@ -1,6 +1,6 @@
 use Rattle.std.proofs.Common.{◌∙◌, arith}
 use Rattle.std.proofs.lemmas.Result.{err_from_is_err_and}
-use Rattle.port_vars.proofs.ReadSoFar.{too_long, read_line, read_fault, read_all}
+use Rattle.port_vars.proofs.ReadSoFar.{too_long, read_line, read_fault, read_all, each_value}
 use Rattle.port_vars.proofs.vars.read_within.Goals as goal
 
 pub returns-then-bytes-limits-clause-bad_line : goal.returns-then-bytes-limits-clause-bad_line
@@ -19,3 +19,8 @@ loop-line-preserved c =
 pub returns-clause-ok : goal.returns-clause-ok
 returns-clause-ok c =
     read_all c.args.limits c.args.bytes.now c.as_slice-line-items.result.now c.loop-line.line-index c.loop-line.values (omega arith) (c.as_slice-line-items.ensures ∙ c.in_ok-lines.ensures) (omega arith) c.loop-line.invariant
+
+pub returns-clause-value : goal.returns-clause-value
+returns-clause-value c =
+    each_value c.args.limits c.args.bytes.now c.loop-line.values
+    (read_all c.args.limits c.args.bytes.now c.as_slice-line-items.result.now c.loop-line.line-index c.loop-line.values (omega arith) (c.as_slice-line-items.ensures ∙ c.in_ok-lines.ensures) (omega arith) c.loop-line.invariant)
