@@ -5,7 +5,8 @@ use Rattle.std.specs.List.{IsDistinct}
 use Rattle.bulk_base.proofs.MapView.{keys_ascend}
 use Rattle.outside.specs.Contents.{IsAscending}
 use Rattle.tree_index.specs.declared.node.NodeInfo.{NodeInfo}
-use Rattle.tree_index.specs.declared.tree_reading.TheConstants.{MOST_NODES}
+use Rattle.bulk_model.specs.Limits.{most}
+use Rattle.bulk_model.specs.declared.which.Which.TheVariants.{Nodes}
 use Rattle.tree_index.specs.Facts.{IsNodeInfo, AreTreeNodes, is_default_of}
 use Rattle.tree_index.specs.Gathered.{AreWhole}
 use Rattle.tree_index.specs.Tree.{ordered, by_name}
@@ -15,7 +16,7 @@ use Rattle.tree_index.proofs.Puts.{all_put_in, holds_of_all, names_are_keys, as_
 abbrev name_of : NodeInfo → List ℕ
 name_of node = node.node
 
-pub tree_form : (nodes : List NodeInfo) → AreWhole nodes → length (ordered nodes) ≤ MOST_NODES → IsDistinct bytes_eq (map (λ node. node.desc.name) (ordered nodes)) → AreTreeNodes (ordered nodes)
+pub tree_form : (nodes : List NodeInfo) → AreWhole nodes → length (ordered nodes) ≤ most Nodes → IsDistinct bytes_eq (map (λ node. node.desc.name) (ordered nodes)) → AreTreeNodes (ordered nodes)
 unfolding ordered
 tree_form nodes h few apart = record {
   forms = holds_of_all IsNodeInfo name_of nodes h.forms;

@@ -1,5 +1,5 @@
 -- What holds of names that a file lists, and of the nodes of ports that were read one after another.
-use Rattle.std.specs.Prelude.{◌≡◌, ℕ, List, map, filter, length, IsTrue, bytes_eq}
+use Rattle.std.specs.Prelude.{◌≡◌, ◌++◌, ℕ, List, map, filter, length, IsTrue, bytes_eq}
 use Rattle.std.specs.List.{AllByRecursion, IsDistinct}
 use Rattle.bulk_base.specs.Names.{is_port_name}
 use Rattle.outside.specs.Contents.{IsAscending}
@@ -20,3 +20,10 @@ pub record AreWhole (nodes : List NodeInfo) : Type 0 where
 -- nodes of ports of one category
 abbrev pub AreOf : List ℕ → List NodeInfo → Type 0
 AreOf category nodes = AllByRecursion (λ node. node.origin.category ≡ category) nodes
+
+-- nodes with those of whole ports of one category behind them
+pub record AddsCategory (category : List ℕ) (before after : List NodeInfo) : Type 0 where
+  pub more : List NodeInfo
+  pub all : after ≡ before ++ more
+  pub whole : AreWhole more
+  pub here : AreOf category more

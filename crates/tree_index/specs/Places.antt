@@ -19,13 +19,24 @@ category_folder category = joined (codes "ports") category
 abbrev pub ports_file : List ℕ → List ℕ
 ports_file category = joined (category_folder category) (codes "subdir.vars")
 
+abbrev pub port_folder : Origin → List ℕ
+port_folder origin = joined (category_folder origin.category) origin.port
+
 -- a port's description
 abbrev pub port_file : Origin → List ℕ
-port_file origin = joined (joined (category_folder origin.category) origin.port) (codes "port.vars")
+port_file origin = joined (port_folder origin) (codes "port.vars")
+
+-- the list of a port's distfiles
+abbrev pub distinfo_file : Origin → List ℕ
+distinfo_file origin = joined (port_folder origin) (codes "distinfo")
+
+-- the list of what a port's package holds
+abbrev pub plist_file : Origin → List ℕ
+plist_file origin = joined (port_folder origin) (codes "pkg-plist")
 
 -- the folder of a port's files
 abbrev pub files_folder : Origin → List ℕ
-files_folder origin = joined (joined (category_folder origin.category) origin.port) (codes "files")
+files_folder origin = joined (port_folder origin) (codes "files")
 
 -- a port's options file
 abbrev pub options_file : Origin → List ℕ

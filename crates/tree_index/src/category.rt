@@ -2,10 +2,11 @@
 ghost use Rattle.std.specs.Prelude.{◌≡◌, ◌≢◌, Ok, Err, IsTrue, IfOk, IfErr};
 ghost use Rattle.bulk_base.specs.Names.{is_port_name};
 ghost use Rattle.tree_index.specs.Facts.{IsCaused};
-ghost use Rattle.tree_index.specs.Gathered.{IsNameList, AreWhole, AreOf};
-ghost use Rattle.tree_index.specs.Tree.{nodes_of_ports, nodes_of_category, nodes_of_categories};
+ghost use Rattle.tree_index.specs.Gathered.{IsNameList, AreWhole, AddsCategory};
+ghost use Rattle.tree_index.specs.Tree.{with_ports, with_category, nodes_of_categories};
 
 use crate::fault::IndexError;
+use crate::found::{Found, add_port};
 use crate::listing::read_list;
 use crate::node::NodeInfos;
 use crate::place::ports_file;
@@ -27,7 +28,7 @@ fn origin_in(alloc: Global, category: &Text, port: &Text) -> Result<Origin, NoMe
     })
 }
 
-/// The nodes of a category's ports, one port after another, or the first port's refusal.
+/// What is found with the nodes of a category's ports, one port after another, or the first refusal.
 fn read_ports<T: Tree>(
     alloc: Global,
     tree: &mut T,
@@ -35,46 +36,51 @@ fn read_ports<T: Tree>(
     try_broken: bool,
     category: &Text,
     ports: &Texts,
-) -> Result<NodeInfos, IndexError>
+    begun: Found,
+) -> Result<Found, IndexError>
     requires category { IsTrue (is_port_name category.now) }
     requires ports { IsNameList ports.now }
-    ensures ok { IsTrue T.tells → IfOk result (λ nodes. nodes_of_ports make.now try_broken (T.content tree.old) category.now ports.now ≡ Ok nodes) }
-    ensures refused { IsTrue T.tells → IfErr result (λ e. e ≢ IndexError.NoMemory → e ≢ IndexError.TreeFault → nodes_of_ports make.now try_broken (T.content tree.old) category.now ports.now ≡ Err e) }
-    ensures form { IfOk result AreWhole }
-    ensures category { IfOk result (AreOf category.now) }
+    ensures ok { IsTrue T.tells → IfOk result (λ found.
+        with_ports make.now try_broken (T.content tree.old) category.now begun ports.now ≡ Ok found) }
+    ensures refused { IsTrue T.tells → IfErr result (λ e. e ≢ IndexError.NoMemory → e ≢ IndexError.TreeFault
+        → with_ports make.now try_broken (T.content tree.old) category.now begun ports.now ≡ Err e) }
+    ensures form { IfOk result (λ found. AddsCategory category.now begun.nodes found.nodes) }
     ensures same { T.content tree.new ≡ T.content tree.old }
     ensures cause { IsCaused (T.faults tree.old) (T.faults tree.new) result }
 {
-    let mut nodes = Vec::new(alloc);
+    let mut found = begun;
     for port in ports.as_slice() {
         let origin = origin_in(alloc, category, port)?;
-        let mut found = read_port(alloc, tree, make, try_broken, &origin)?.into_vec();
-        nodes.append(&mut found)?;
+        let port = read_port(alloc, tree, make, try_broken, &origin)?;
+        found = add_port(found, port)?;
     }
-    Ok(Sequence::from_vec(nodes))
+    Ok(found)
 }
 
-// The nodes of a category, whose list of ports is read first.
+// What is found with the nodes of a category, whose list of ports is read first.
 fn read_category<T: Tree>(
     alloc: Global,
     tree: &mut T,
     make: &MakeConf,
     try_broken: bool,
     category: &Text,
-) -> Result<NodeInfos, IndexError>
+    begun: Found,
+) -> Result<Found, IndexError>
     requires { IsTrue (is_port_name category.now) }
-    ensures ok { IsTrue T.tells → IfOk result (λ nodes. nodes_of_category make.now try_broken (T.content tree.old) category.now ≡ Ok nodes) }
-    ensures refused { IsTrue T.tells → IfErr result (λ e. e ≢ IndexError.NoMemory → e ≢ IndexError.TreeFault → nodes_of_category make.now try_broken (T.content tree.old) category.now ≡ Err e) }
-    ensures form { IfOk result AreWhole }
-    ensures category { IfOk result (AreOf category.now) }
+    ensures ok { IsTrue T.tells → IfOk result (λ found.
+        with_category make.now try_broken (T.content tree.old) begun category.now ≡ Ok found) }
+    ensures refused { IsTrue T.tells → IfErr result (λ e. e ≢ IndexError.NoMemory → e ≢ IndexError.TreeFault
+        → with_category make.now try_broken (T.content tree.old) begun category.now ≡ Err e) }
+    ensures form { IfOk result (λ found. AddsCategory category.now begun.nodes found.nodes) }
     ensures same { T.content tree.new ≡ T.content tree.old }
     ensures cause { IsCaused (T.faults tree.old) (T.faults tree.new) result }
 {
     let ports = read_list(alloc, tree, &ports_file(alloc, category)?)?;
-    read_ports(alloc, tree, make, try_broken, category, &ports)
+    read_ports(alloc, tree, make, try_broken, category, &ports, begun)
 }
 
-/// The nodes of categories, one category after another, or the first refusal: a category's list is read before its ports.
+/// What the ports of categories give, one category after another, or the first refusal: a category's list is read before
+/// its ports, and the bytes of descriptions are counted at each port.
 pub(crate) fn read_categories<T: Tree>(
     alloc: Global,
     tree: &mut T,
@@ -83,16 +89,20 @@ pub(crate) fn read_categories<T: Tree>(
     categories: &Texts,
 ) -> Result<NodeInfos, IndexError>
     requires { IsNameList categories.now }
-    ensures ok { IsTrue T.tells → IfOk result (λ nodes. nodes_of_categories make.now try_broken (T.content tree.old) categories.now ≡ Ok nodes) }
-    ensures refused { IsTrue T.tells → IfErr result (λ e. e ≢ IndexError.NoMemory → e ≢ IndexError.TreeFault → nodes_of_categories make.now try_broken (T.content tree.old) categories.now ≡ Err e) }
+    ensures ok { IsTrue T.tells → IfOk result (λ nodes.
+        nodes_of_categories make.now try_broken (T.content tree.old) categories.now ≡ Ok nodes) }
+    ensures refused { IsTrue T.tells → IfErr result (λ e. e ≢ IndexError.NoMemory → e ≢ IndexError.TreeFault
+        → nodes_of_categories make.now try_broken (T.content tree.old) categories.now ≡ Err e) }
     ensures form { IfOk result AreWhole }
     ensures same { T.content tree.new ≡ T.content tree.old }
     ensures cause { IsCaused (T.faults tree.old) (T.faults tree.new) result }
 {
-    let mut nodes = Vec::new(alloc);
+    let mut found = Found {
+        nodes: Sequence::new(alloc),
+        bytes: 0,
+    };
     for category in categories.as_slice() {
-        let mut found = read_category(alloc, tree, make, try_broken, category)?.into_vec();
-        nodes.append(&mut found)?;
+        found = read_category(alloc, tree, make, try_broken, category, found)?;
     }
-    Ok(Sequence::from_vec(nodes))
+    Ok(found.nodes)
 }

@@ -59,6 +59,12 @@ pub enum PortKind {
     },
     /// The file is not there.
     Absent,
+    /// A path that the builder keeps for its own files. No index answers it; the layers above do, and the next two.
+    Reserved,
+    /// A line of a distinfo is outside its form, or its files do not fit together.
+    Distinfo,
+    /// A line of a pkg-plist is outside its form.
+    Plist,
     /// A line of MOVED is outside its form.
     BadMoved,
 }

@@ -2,7 +2,8 @@
 ghost use Rattle.std.specs.Prelude.{◌≡◌, ◌≢◌, ◌≤◌, ◌||◌, length, IsTrue, IfOk, IfErr, Ok, Err};
 ghost use Rattle.tree_index.specs.Facts.{AreTreeNodes, IsCaused};
 ghost use Rattle.tree_index.specs.Index.{index_with, index_of};
-ghost use Rattle.tree_index.specs.declared.tree_reading.TheConstants.{MOST_NODES};
+ghost use Rattle.bulk_model.specs.Limits.{most};
+ghost use Rattle.bulk_model.specs.declared.which.Which.TheVariants.{Nodes};
 
 use crate::fault::IndexError;
 use crate::name_list::names_of;
@@ -45,8 +46,9 @@ fn index_with(alloc: Global, moved: Moved, listed: NodeInfos) -> Result<Index, N
 ///    4,194,305 where it has more than 4,194,304 bytes
 /// 3. for each category, in byte order, that of its `subdir.vars`; then for each of its ports, in byte order, that of the
 ///    port's options file, which may be absent, and of its `port.vars`: the lines, Missing, FLAVORS, the options, and then the
-///    checks of each flavor in the order of FLAVORS
-/// 4. Limit Nodes with the whole count, where there are more than 16,384 nodes
+///    checks of each flavor in the order of FLAVORS; then Limit VarsBytes with the sum, where the bytes of the `port.vars`
+///    so far, those of a port counted once for each of its nodes, pass 268,435,456
+/// 4. Limit Nodes with the whole count, where there are more than 65,535 nodes
 /// 5. DupName with the least node that shares its package's name with another, and the least of the others
 ///
 /// A file that has to be there and is not is BadPort with Absent, and a word of SUBDIR that is no name BadPort with BadValue,
@@ -62,7 +64,7 @@ pub fn index<T: Tree>(
 ) -> Result<Index, IndexError>
     ensures ok { IsTrue T.tells → IfOk result (λ index. index_of make.now (make.now.try_broken || try_broken) (T.content tree.old) ≡ Ok index) }
     ensures refused { IsTrue T.tells → IfErr result (λ e. e ≢ IndexError.NoMemory → e ≢ IndexError.TreeFault → index_of make.now (make.now.try_broken || try_broken) (T.content tree.old) ≡ Err e) }
-    ensures few { IfOk result (λ index. length index.nodes ≤ MOST_NODES) }
+    ensures few { IfOk result (λ index. length index.nodes ≤ most Nodes) }
     ensures same { T.content tree.new ≡ T.content tree.old }
     ensures cause { IsCaused (T.faults tree.old) (T.faults tree.new) result }
 {

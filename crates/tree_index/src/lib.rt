@@ -4,6 +4,7 @@
 mod category;
 mod depends;
 mod fault;
+mod found;
 mod indexing;
 mod listing;
 mod moved_file;
@@ -25,5 +26,5 @@ pub use depends::{depends_of, edges_of};
 pub use fault::{IndexError, PortKind};
 pub use indexing::index;
 pub use node::{At, NodeInfo, NodeInfos, Target, Targets};
-pub use place::{files_folder, origin_name, port_file};
+pub use place::{distinfo_file, files_folder, origin_name, plist_file, port_file, port_folder};
 pub use ports_index::Index;

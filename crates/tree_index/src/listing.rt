@@ -7,7 +7,7 @@ ghost use Rattle.tree_index.specs.VarFiles as files;
 
 use crate::fault::{IndexError, PortKind};
 use crate::port_fault::bad_port;
-use crate::var_file::read_vars_at;
+use crate::var_file::read_list_at;
 use bulk_base::{Path, Text, Texts, in_order};
 use outside::Tree;
 use port_name::is_port_name;
@@ -46,7 +46,7 @@ fn names_among(alloc: Global, path: &Path, words: &Texts) -> Result<Texts, Index
 /// What the SUBDIR of a file of the tree lists (docs/FORMATS.md, "The tree folder"): names of categories or ports, in byte
 /// order, each once.
 ///
-/// The file has to be there and to be a variable file of at most 65,536 bytes, and each word of its SUBDIR has to be the name
+/// The file has to be there and to be a variable file of at most 1,048,576 bytes, and each word of its SUBDIR has to be the name
 /// of a category or a port: else BadPort. One read of the file, and O(log n) comparisons for each of the n words.
 pub(crate) fn read_list<T: Tree>(
     alloc: Global,
@@ -59,7 +59,7 @@ pub(crate) fn read_list<T: Tree>(
     ensures same { T.content tree.new ≡ T.content tree.old }
     ensures cause { IsCaused (T.faults tree.old) (T.faults tree.new) result }
 {
-    let vars = read_vars_at(alloc, tree, path)?;
+    let vars = read_list_at(alloc, tree, path)?;
     let words = words_in(alloc, &vars, &Text::literal(alloc, b"SUBDIR")?)?;
     names_among(alloc, path, &words)
 }

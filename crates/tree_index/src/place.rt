@@ -73,9 +73,10 @@ pub(crate) fn ports_file(alloc: Global, category: &Text) -> Result<Path, NoMemor
     category_folder(alloc, category)?.join_short(alloc, &Path::literal(alloc, b"subdir.vars")?)
 }
 
-fn port_folder(alloc: Global, origin: &Origin) -> Result<Path, NoMemory>
+/// A port's folder in the tree: `ports/CATEGORY/PORT`, of at most 135 bytes (docs/FORMATS.md, "The tree folder").
+pub fn port_folder(alloc: Global, origin: &Origin) -> Result<Path, NoMemory>
     requires { IsPlace origin.now }
-    ensures path { IfOk result (λ path. path ≡ joined (places.category_folder origin.now.category) origin.now.port) }
+    ensures path { IfOk result (λ path. path ≡ places.port_folder origin.now) }
     ensures short { IfOk result (λ path. length path ≤ 135) }
 {
     category_folder(alloc, &origin.category)?.join_short(alloc, &name_path(alloc, &origin.port)?)
@@ -87,6 +88,22 @@ pub fn port_file(alloc: Global, origin: &Origin) -> Result<Path, NoMemory>
     ensures { IfOk result (λ path. path ≡ places.port_file origin.now) }
 {
     port_folder(alloc, origin)?.join_short(alloc, &Path::literal(alloc, b"port.vars")?)
+}
+
+/// The list of a port's distfiles: `ports/CATEGORY/PORT/distinfo` (docs/FORMATS.md, "The tree folder").
+pub fn distinfo_file(alloc: Global, origin: &Origin) -> Result<Path, NoMemory>
+    requires { IsPlace origin.now }
+    ensures { IfOk result (λ path. path ≡ places.distinfo_file origin.now) }
+{
+    port_folder(alloc, origin)?.join_short(alloc, &Path::literal(alloc, b"distinfo")?)
+}
+
+/// The list of what a port's package holds: `ports/CATEGORY/PORT/pkg-plist` (docs/FORMATS.md, "The tree folder").
+pub fn plist_file(alloc: Global, origin: &Origin) -> Result<Path, NoMemory>
+    requires { IsPlace origin.now }
+    ensures { IfOk result (λ path. path ≡ places.plist_file origin.now) }
+{
+    port_folder(alloc, origin)?.join_short(alloc, &Path::literal(alloc, b"pkg-plist")?)
 }
 
 /// The folder of a port's files: `ports/CATEGORY/PORT/files` (docs/FORMATS.md, "The tree folder").

@@ -11,6 +11,7 @@ ghost use Rattle.tree_index.specs.PortNodes as ports;
 ghost use Rattle.tree_index.specs.VarFiles as files;
 
 use crate::fault::IndexError;
+use crate::found::PortNodes;
 use crate::node::{NodeInfo, NodeInfos};
 use crate::place::{options_file, port_file};
 use crate::port_fault::{desc_fault, option_fault};
@@ -158,7 +159,7 @@ fn read_options<T: Tree>(alloc: Global, tree: &mut T, origin: &Origin) -> Result
     read_vars_if_there(alloc, tree, &path)
 }
 
-/// The nodes of a port, the default first, the others in the order of FLAVORS (docs/FORMATS.md, "The tree folder"). Where
+/// The nodes of a port with the size of its description, the default node first, the others in the order of FLAVORS (docs/FORMATS.md, "The tree folder"). Where
 /// their dependencies lead is not known yet. `try_broken` says whether BROKEN is passed over.
 ///
 /// The first of these refusals is answered: of the port's options file, which may be absent; of its description, BadPort
@@ -172,16 +173,24 @@ pub(crate) fn read_port<T: Tree>(
     make: &MakeConf,
     try_broken: bool,
     origin: &Origin,
-) -> Result<NodeInfos, IndexError>
+) -> Result<PortNodes, IndexError>
     requires { IsPlace origin.now }
-    ensures ok { IsTrue T.tells → IfOk result (λ nodes. ports.port_nodes make.now try_broken (T.content tree.old) origin.now ≡ Ok nodes) }
-    ensures refused { IsTrue T.tells → IfErr result (λ e. e ≢ IndexError.NoMemory → e ≢ IndexError.TreeFault → ports.port_nodes make.now try_broken (T.content tree.old) origin.now ≡ Err e) }
-    ensures form { IfOk result (ArePortNodes origin.now) }
+    ensures ok { IsTrue T.tells → IfOk result (λ port.
+        ports.port_nodes make.now try_broken (T.content tree.old) origin.now ≡ Ok port.nodes) }
+    ensures size { IsTrue T.tells → IfOk result (λ port.
+        files.size_at (T.content tree.old) (places.port_file origin.now) ≡ port.size) }
+    ensures refused { IsTrue T.tells → IfErr result (λ e. e ≢ IndexError.NoMemory → e ≢ IndexError.TreeFault
+        → ports.port_nodes make.now try_broken (T.content tree.old) origin.now ≡ Err e) }
+    ensures form { IfOk result (λ port. ArePortNodes origin.now port.nodes) }
     ensures same { T.content tree.new ≡ T.content tree.old }
     ensures cause { IsCaused (T.faults tree.old) (T.faults tree.new) result }
 {
     let file = read_options(alloc, tree, origin)?;
     let path = port_file(alloc, origin)?;
-    let vars = read_vars_at(alloc, tree, &path)?;
-    nodes_by(alloc, make, try_broken, origin, &file, &vars, &path)
+    let own = read_vars_at(alloc, tree, &path)?;
+    let nodes = nodes_by(alloc, make, try_broken, origin, &file, &own.vars, &path)?;
+    Ok(PortNodes {
+        nodes,
+        size: own.size,
+    })
 }

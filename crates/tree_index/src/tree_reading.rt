@@ -2,7 +2,8 @@
 ghost use Rattle.std.specs.Prelude.{◌≡◌, ◌≢◌, ◌≤◌, length, Ok, Err, IsTrue, IfOk, IfErr, OnOk};
 ghost use Rattle.tree_index.specs.Facts.{IsCaused, AreTreeNodes};
 ghost use Rattle.tree_index.specs.Gathered.{AreWhole, IsNameList};
-ghost use Rattle.tree_index.specs.declared.tree_reading.TheConstants.{MOST_NODES};
+ghost use Rattle.bulk_model.specs.Limits.{most};
+ghost use Rattle.bulk_model.specs.declared.which.Which.TheVariants.{Nodes};
 ghost use Rattle.tree_index.specs.Tree.{few, accepted, nodes_in, tree_nodes};
 
 use crate::category::read_categories;
@@ -20,18 +21,15 @@ use moved_list::Moved;
 use outside::Tree;
 use std::alloc::Global;
 
-/// The most nodes of a tree that is read.
-const MOST_NODES: usize = 16_384;
-
 /// Refuses more than the most nodes: Limit of Nodes with their number.
 #[tactic(auto, unfolding(crate::specs::Tree::few))]
 pub(crate) fn refuse_many(nodes: &[NodeInfo]) -> Result<(), IndexError>
     ensures ok { OnOk result (few nodes.now ≡ Ok nodes.now) }
     ensures refused { IfErr result (λ e. few nodes.now ≡ Err e) }
-    ensures form { OnOk result (length nodes.now ≤ MOST_NODES) }
+    ensures form { OnOk result (length nodes.now ≤ most Nodes) }
     ensures quiet { IfErr result (λ e. e ≢ IndexError.TreeFault) }
 {
-    if nodes.len() > MOST_NODES {
+    if nodes.len() as u64 > Which::Nodes.most() {
         return Err(IndexError::Limit {
             which: Which::Nodes,
             count: nodes.len() as u64,
@@ -46,7 +44,7 @@ fn accept(alloc: Global, found: NodeInfos) -> Result<NodeInfos, IndexError>
     ensures ok { IfOk result (λ nodes. accepted found ≡ Ok nodes) }
     ensures refused { IfErr result (λ e. e ≢ IndexError.NoMemory → accepted found ≡ Err e) }
     ensures form { AreWhole found → IfOk result AreTreeNodes }
-    ensures few { IfOk result (λ nodes. length nodes ≤ MOST_NODES) }
+    ensures few { IfOk result (λ nodes. length nodes ≤ most Nodes) }
     ensures quiet { IfErr result (λ e. e ≢ IndexError.TreeFault) }
 {
     let nodes = in_name_order(alloc, found)?;
@@ -69,7 +67,7 @@ fn read_nodes<T: Tree>(
     ensures refused { IsTrue T.tells → IfErr result (λ e. e ≢ IndexError.NoMemory → e ≢ IndexError.TreeFault
         → nodes_in make.now try_broken (T.content tree.old) categories.now ≡ Err e) }
     ensures form { IfOk result AreTreeNodes }
-    ensures few { IfOk result (λ nodes. length nodes ≤ MOST_NODES) }
+    ensures few { IfOk result (λ nodes. length nodes ≤ most Nodes) }
     ensures same { T.content tree.new ≡ T.content tree.old }
     ensures cause { IsCaused (T.faults tree.old) (T.faults tree.new) result }
 {
@@ -95,7 +93,7 @@ pub(crate) fn read_tree<T: Tree>(
     ensures ok { IsTrue T.tells → IfOk result (λ listed. tree_nodes make.now try_broken (T.content tree.old) ≡ Ok listed) }
     ensures refused { IsTrue T.tells → IfErr result (λ e. e ≢ IndexError.NoMemory → e ≢ IndexError.TreeFault → tree_nodes make.now try_broken (T.content tree.old) ≡ Err e) }
     ensures form { IfOk result (λ listed. AreTreeNodes listed.1) }
-    ensures few { IfOk result (λ listed. length listed.1 ≤ MOST_NODES) }
+    ensures few { IfOk result (λ listed. length listed.1 ≤ most Nodes) }
     ensures same { T.content tree.new ≡ T.content tree.old }
     ensures cause { IsCaused (T.faults tree.old) (T.faults tree.new) result }
 {

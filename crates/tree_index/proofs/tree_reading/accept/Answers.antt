@@ -4,7 +4,8 @@ use Rattle.std.specs.List.{IsDistinct}
 use Rattle.std.proofs.lemmas.Result.{err_from_is_err_and}
 use Rattle.port_desc.proofs.Refused.{ok_then, err_then}
 use Rattle.tree_index.specs.declared.node.NodeInfo.{NodeInfo}
-use Rattle.tree_index.specs.declared.tree_reading.TheConstants.{MOST_NODES}
+use Rattle.bulk_model.specs.Limits.{most}
+use Rattle.bulk_model.specs.declared.which.Which.TheVariants.{Nodes}
 use Rattle.tree_index.specs.Facts.{AreTreeNodes}
 use Rattle.tree_index.specs.Tree.{ordered, few, apart}
 use Rattle.tree_index.proofs.Ordered.{tree_form}
@@ -31,7 +32,7 @@ returns-clause-ok c =
 pub returns-clause-form : goal.returns-clause-form
 returns-clause-form c = λ whole.
     let found = c.args.found in
-    let many : length (ordered found) ≤ MOST_NODES = subst (λ (nodes : List NodeInfo). length nodes ≤ MOST_NODES) (c.as_slice.ensures ∙ c.in_ok-nodes.ensures) c.in_ok-refuse_many.ensures.form in
+    let many : length (ordered found) ≤ most Nodes = subst (λ (nodes : List NodeInfo). length nodes ≤ most Nodes) (c.as_slice.ensures ∙ c.in_ok-nodes.ensures) c.in_ok-refuse_many.ensures.form in
     let differ : IsDistinct bytes_eq (map (λ node. node.desc.name) (ordered found)) =
     subst (λ (nodes : List NodeInfo). IsDistinct bytes_eq (map (λ node. node.desc.name) nodes)) (c.as_slice-2.ensures ∙ c.in_ok-nodes.ensures) c.in_ok-refuse_twins.ensures.form in
     subst AreTreeNodes (sym c.in_ok-nodes.ensures) (tree_form found whole many differ)

@@ -26,12 +26,12 @@ pub returns-in-None-clause-ok : goal.returns-in-None-clause-ok
 returns-in-None-clause-ok g c t =
     let path = c.args.path.now in
     let held = get (g.T.Tree.content c.args.tree.now) path in
-    let is = no_file 65537 path held (Ok empty) (ap (option_map (λ (b : Vec ℕ Global). b.items)) (sym c.in-None.is) ∙ c.in_ok-bytes.ensures.told t) in
+    let is = no_file 65537 (vars_in path) held (Ok empty) (ap (option_map (λ (b : Vec ℕ Global). b.items)) (sym c.in-None.is) ∙ c.in_ok-bytes.ensures.told t) in
     IfOk-weaker c.vars_in-in-None.result _ _ (λ vars h. is ∙ sym (no_bytes path) ∙ h) c.vars_in-in-None.ensures.ok
 
 pub returns-in-None-clause-refused : goal.returns-in-None-clause-refused
 returns-in-None-clause-refused g c t =
     let path = c.args.path.now in
     let held = get (g.T.Tree.content c.args.tree.now) path in
-    let is = no_file 65537 path held (Ok empty) (ap (option_map (λ (b : Vec ℕ Global). b.items)) (sym c.in-None.is) ∙ c.in_ok-bytes.ensures.told t) in
+    let is = no_file 65537 (vars_in path) held (Ok empty) (ap (option_map (λ (b : Vec ℕ Global). b.items)) (sym c.in-None.is) ∙ c.in_ok-bytes.ensures.told t) in
     IfErr-weaker c.vars_in-in-None.result _ _ (λ e h some no_fault. is ∙ sym (no_bytes path) ∙ h some) c.vars_in-in-None.ensures.refused
