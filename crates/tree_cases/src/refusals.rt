@@ -42,6 +42,9 @@ fn push_kind(kind: &PortKind, out: &mut Vec<u8>) -> Result<(), AllocError> {
         PortKind::Target { entry } => push_named(out, "Target", &[entry]),
         PortKind::Absent => push_str(out, "Absent"),
         PortKind::BadMoved => push_str(out, "BadMoved"),
+        PortKind::Reserved => push_str(out, "Reserved"),
+        PortKind::Distinfo => push_str(out, "Distinfo"),
+        PortKind::Plist => push_str(out, "Plist"),
     }
 }
 
