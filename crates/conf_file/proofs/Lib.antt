@@ -1,1 +1,5 @@
 pub mod Named
+pub mod Parts
+pub mod Said
+pub mod ReadSoFar
+pub mod Starred

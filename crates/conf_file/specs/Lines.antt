@@ -2,7 +2,6 @@
 use Rattle.std.specs.Prelude.{ℕ, Bool, true, not, ◌==◌, ◌&&◌, ◌||◌, nat_lt, nat_eq, List, length, slice_index, drop, codes, bytes_eq, Option, Some, None, if◌then◌else◌}
 use Rattle.std.specs.declared.result.Result.{Result}
 use Rattle.std.specs.declared.result.Result.TheVariants.{Ok, Err}
-use Rattle.std.specs.Option.{option_is_some}
 use Rattle.std.specs.List.{list_all, list_any, starts_with, position_or_len, before_first}
 use Rattle.std.specs.Char.{is_ascii_alphanumeric}
 use Rattle.bulk_base.specs.Text.{is_text}
@@ -31,9 +30,12 @@ is_exported text = starts_with nat_eq text (codes "export") && is_blank (slice_i
 abbrev pub statement : List ℕ → List ℕ
 statement line = let text = trim line in if is_exported text then trim_start (drop 6 text) else text
 
+abbrev pub is_name_byte : ℕ → Bool
+is_name_byte b = is_ascii_alphanumeric b || (b == 95)
+
 -- letters, digits and `_`, one at least
 abbrev pub is_name : List ℕ → Bool
-is_name text = nat_lt 0 (length text) && list_all (λ b. is_ascii_alphanumeric b || (b == 95)) text
+is_name text = nat_lt 0 (length text) && list_all is_name_byte text
 
 -- a value behind a mark: up to the next such mark, behind which only a comment may stand
 abbrev pub quoted : ℕ → List ℕ → Option (List ℕ)

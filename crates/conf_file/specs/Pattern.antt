@@ -32,3 +32,10 @@ ends piece name = nat_le (length piece) (length name) && begins piece (drop (len
 -- at no place of a name before a given one does it stand for the bytes there
 abbrev pub FitsNowhereBefore : List ℕ → List ℕ → ℕ → Type 0
 FitsNowhereBefore piece name place = (at : ℕ) → at < place → begins piece (drop at name) ≡ false
+
+-- a rest of a name is what stands behind the first place where it fits
+pub record IsBehindFirst (piece name rest : List ℕ) : Type 0 where
+  pub place : ℕ
+  pub first : FitsNowhereBefore piece name place
+  pub here : begins piece (drop place name) ≡ true
+  pub behind : rest ≡ drop (length piece) (drop place name)

@@ -5,7 +5,7 @@ ghost use Rattle.conf_file.specs.Conf.{conf_of, with_line, LeavesAt};
 
 use crate::fault::{ConfError, ConfKind, LineError};
 use crate::setting::take_line;
-use bulk_base::{NumberedLine, Text, lines, numbered_line};
+use bulk_base::{Text, lines, numbered_line};
 use port_vars::LineKind;
 use std::alloc::Global;
 
@@ -24,15 +24,17 @@ pub struct Conf {
 }
 
 /// Takes what a line says; a fault is at the line's number.
-fn take_numbered(alloc: Global, conf: &mut Conf, line: NumberedLine) -> Result<(), ConfError>
-    ensures { LeavesAt line.number (mapped (with_line conf.old) (said line.text.now)) result conf.new }
+fn take_numbered(
+    alloc: Global,
+    conf: &mut Conf,
+    number: u32,
+    line: &[u8],
+) -> Result<(), ConfError>
+    ensures { LeavesAt number (mapped (with_line conf.old) (said line.now)) result conf.new }
 {
-    match take_line(alloc, conf, line.text) {
+    match take_line(alloc, conf, line) {
         Ok(()) => Ok(()),
-        Err(LineError::Bad(kind)) => Err(ConfError::BadLine {
-            line: line.number,
-            kind,
-        }),
+        Err(LineError::Bad(kind)) => Err(ConfError::BadLine { line: number, kind }),
         Err(LineError::NoMemory) => Err(ConfError::NoMemory),
     }
 }
@@ -62,7 +64,8 @@ pub fn read_conf(alloc: Global, bytes: &[u8]) -> Result<Conf, ConfError>
         boost: Text::literal(alloc, b"")?,
     };
     for at in 0..spans.len() {
-        take_numbered(alloc, &mut conf, numbered_line(bytes, &spans, at))?;
+        let line = numbered_line(bytes, &spans, at);
+        take_numbered(alloc, &mut conf, line.number, line.text)?;
     }
     Ok(conf)
 }

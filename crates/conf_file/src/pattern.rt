@@ -1,8 +1,9 @@
 // Patterns of names.
-ghost use Rattle.std.specs.Prelude.{◌≡◌, ◌↔◌, ◌≤◌, ◌<◌, ◌+◌, ◌-◌, ℕ, ◌∷◌, length, drop, true, false, IsTrue, IfSome, IsNone};
-ghost use Rattle.conf_file.specs.Pattern.{Matches, begins, ends, FitsNowhereBefore};
+ghost use Rattle.std.specs.Prelude.{◌≡◌, ◌↔◌, ◌+◌, ◌∷◌, length, drop, true, false, IsTrue, IfSome, IsNone};
+ghost use Rattle.conf_file.specs.Pattern.{Matches, begins, ends, FitsNowhereBefore, IsBehindFirst};
 
-use bulk_base::{Text, place_or_end};
+use crate::statement::has_byte;
+use bulk_base::{Text, cut};
 
 /// Whether a piece of a pattern without `*` stands for the first bytes of a name.
 fn begins(piece: &[u8], name: &[u8]) -> bool
@@ -26,19 +27,27 @@ fn ends(piece: &[u8], name: &[u8]) -> bool
     piece.len() <= name.len() && begins(piece, &name[name.len() - piece.len()..])
 }
 
-/// The first place of a name where a piece of a pattern without `*` stands for the bytes.
-fn first_place(piece: &[u8], name: &[u8]) -> Option<usize>
-    ensures within { IfSome result (λ at. at + length piece.now ≤ length name.now) }
-    ensures here { IfSome result (λ at. begins piece.now (drop at name.now) ≡ true) }
-    ensures first { IfSome result (λ at. FitsNowhereBefore piece.now name.now at) }
+/// What is left of a name behind a piece of a pattern without `*`; None where the name does not begin with it.
+fn strip_front<'a>(piece: &[u8], name: &'a [u8]) -> Option<&'a [u8]>
+    ensures begins { IfSome result (λ rest. begins piece.now name.now ≡ true) }
+    ensures rest { IfSome result (λ rest. rest.now ≡ drop (length piece.now) name.now) }
+    ensures other { IsNone result → begins piece.now name.now ≡ false }
+{
+    if begins(piece, name) {
+        Some(&name[piece.len()..])
+    } else {
+        None
+    }
+}
+
+/// What is left of a name behind the first place where a piece of a pattern without `*` fits; None where it fits nowhere.
+fn strip_first<'a>(piece: &[u8], name: &'a [u8]) -> Option<&'a [u8]>
+    ensures first { IfSome result (λ rest. IsBehindFirst piece.now name.now rest.now) }
     ensures nowhere { IsNone result → FitsNowhereBefore piece.now name.now (length name.now + 1) }
 {
-    if piece.len() > name.len() {
-        return None;
-    }
-    for at in 0..=name.len() - piece.len() {
-        if begins(piece, &name[at..]) {
-            return Some(at);
+    for at in 0..=name.len() {
+        if let Some(rest) = strip_front(piece, &name[at..]) {
+            return Some(rest);
         }
     }
     None
@@ -50,14 +59,13 @@ fn matches_behind_star(pattern: &[u8], name: &[u8]) -> bool
 {
     let mut pattern = pattern;
     let mut name = name;
-    let mut star = place_or_end(pattern, b'*');
-    while star < pattern.len() {
-        let Some(at) = first_place(&pattern[..star], name) else {
+    while has_byte(pattern, b'*') {
+        let (piece, rest) = cut(pattern, b'*');
+        let Some(behind) = strip_first(piece, name) else {
             return false;
         };
-        name = &name[at + star..];
-        pattern = &pattern[star + 1..];
-        star = place_or_end(pattern, b'*');
+        name = behind;
+        pattern = rest;
     }
     ends(pattern, name)
 }
@@ -72,9 +80,12 @@ pub fn matches(pattern: &Text, name: &Text) -> bool
 {
     let pattern = pattern.bytes();
     let name = name.bytes();
-    let star = place_or_end(pattern, b'*');
-    if star == pattern.len() {
+    if !has_byte(pattern, b'*') {
         return pattern.len() == name.len() && begins(pattern, name);
     }
-    begins(&pattern[..star], name) && matches_behind_star(&pattern[star + 1..], &name[star..])
+    let (head, rest) = cut(pattern, b'*');
+    match strip_front(head, name) {
+        Some(behind) => matches_behind_star(rest, behind),
+        None => false,
+    }
 }

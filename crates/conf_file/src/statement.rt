@@ -1,8 +1,7 @@
 // The statement of a line of poudriere.conf: its name and its value.
-ghost use Rattle.std.specs.Prelude.{◌≡◌, IfSome};
+ghost use Rattle.std.specs.Prelude.{◌≡◌, ◌≤◌, length};
 ghost use Rattle.std.specs.Option.{option_copied};
-ghost use Rattle.std.specs.List.{list_any, position_or_len};
-ghost use Rattle.bulk_base.specs.Text.{IsText};
+ghost use Rattle.std.specs.List.{list_all, list_any, position_or_len};
 ghost use Rattle.bulk_base.specs.Marks.{is_mark};
 ghost use Rattle.bulk_base.specs.Words as words;
 ghost use Rattle.conf_file.specs.Lines as line_of;
@@ -25,8 +24,7 @@ fn is_exported(text: &[u8]) -> bool
 
 /// A line without the blanks at its ends, and without `export` and the blanks behind it.
 pub(crate) fn statement(line: &[u8]) -> &[u8]
-    ensures value { result.now ≡ line_of.statement line.now }
-    ensures form { IsText line.now → IsText result.now }
+    ensures { result.now ≡ line_of.statement line.now }
 {
     let text = trim(line);
     if is_exported(text) {
@@ -36,11 +34,17 @@ pub(crate) fn statement(line: &[u8]) -> &[u8]
     }
 }
 
+fn has_name_bytes(text: &[u8]) -> bool
+    ensures { result ≡ list_all line_of.is_name_byte text.now }
+{
+    text.iter().all(|b| b.is_ascii_alphanumeric() || *b == b'_')
+}
+
 /// Whether a text is a name: letters, digits and `_`, one at least.
 pub(crate) fn is_name(text: &[u8]) -> bool
     ensures { result ≡ line_of.is_name text.now }
 {
-    !text.is_empty() && text.iter().all(|b| b.is_ascii_alphanumeric() || *b == b'_')
+    !text.is_empty() && has_name_bytes(text)
 }
 
 /// Whether a byte stands in a text.
@@ -65,6 +69,7 @@ fn quoted(mark: u8, text: &[u8]) -> Option<&[u8]>
 /// Where the first blank stands; the end where there is none.
 fn first_blank(text: &[u8]) -> usize
     ensures place { result ≡ position_or_len words.is_blank text.now }
+    ensures within { result ≤ length text.now }
 {
     text.iter().position(|b| is_blank(*b)).unwrap_or(text.len())
 }
@@ -84,8 +89,7 @@ fn plain(text: &[u8]) -> Option<&[u8]>
 /// The value in what stands behind the operator; None where a mark has no other, or where more than a comment stands behind
 /// the value.
 pub(crate) fn value_in(text: &[u8]) -> Option<&[u8]>
-    ensures value { option_copied result ≡ line_of.value_in text.now }
-    ensures form { IsText text.now → IfSome result (λ value. IsText value.now) }
+    ensures { option_copied result ≡ line_of.value_in text.now }
 {
     match text.first() {
         Some(mark @ (b'"' | b'\'')) => quoted(*mark, &text[1..]),
