@@ -3,3 +3,4 @@ pub mod Parts
 pub mod Said
 pub mod ReadSoFar
 pub mod Starred
+pub mod Cutting

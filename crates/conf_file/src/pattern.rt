@@ -1,9 +1,16 @@
 // Patterns of names.
-ghost use Rattle.std.specs.Prelude.{◌≡◌, ◌↔◌, ◌+◌, ◌∷◌, length, drop, true, false, IsTrue, IfSome, IsNone};
+ghost use Rattle.std.specs.Prelude.{◌≡◌, ◌↔◌, ◌==◌, ◌||◌, ◌+◌, ◌∷◌, length, drop, true, false, IsTrue, IfSome, IsNone};
 ghost use Rattle.conf_file.specs.Pattern.{Matches, begins, ends, FitsNowhereBefore, IsBehindFirst};
 
 use crate::statement::has_byte;
 use bulk_base::{Text, cut};
+
+/// Whether a byte of a pattern that is no `*` stands for a byte of a name.
+fn stands_for(pattern: u8, byte: u8) -> bool
+    ensures { result ≡ ((pattern == 63) || (pattern == byte)) }
+{
+    pattern == b'?' || pattern == byte
+}
 
 /// Whether a piece of a pattern without `*` stands for the first bytes of a name.
 fn begins(piece: &[u8], name: &[u8]) -> bool
@@ -13,7 +20,7 @@ fn begins(piece: &[u8], name: &[u8]) -> bool
         return false;
     }
     for at in 0..piece.len() {
-        if piece[at] != b'?' && piece[at] != name[at] {
+        if !stands_for(piece[at], name[at]) {
             return false;
         }
     }
