@@ -1,8 +1,8 @@
 -- Parts of a line of poudriere.conf are texts.
-use Rattle.std.proofs.Common.{◌≡◌, ℕ, ◌+◌, ◌<◌, ◌≤◌, Bool, true, false, List, [], ◌∷◌, length, get_or, take, drop, cond, arith, ◌∙◌, sym, ap, refl, inl, inr, subst}
-use Rattle.std.specs.Prelude.{◌==◌, ◌||◌, ◌&&◌, unwrap_or, Option, Some, None, nat_eq, codes}
+use Rattle.std.proofs.Common.{◌≡◌, ℕ, ◌+◌, ◌<◌, Bool, true, false, List, [], ◌∷◌, length, get_or, drop, cond, arith, sym, ap, refl, inl, inr, subst}
+use Rattle.std.specs.Prelude.{◌==◌, ◌||◌, ◌&&◌, unwrap_or, Some, None, nat_eq, codes}
 use Rattle.std.specs.List.{position_or_len, before_first, after_first, starts_with, list_any}
-use Rattle.std.proofs.lemmas.Str.{IsUtf8-nil, IsCharBoundary-before_ascii}
+use Rattle.std.proofs.lemmas.Str.{IsCharBoundary-before_ascii}
 use Rattle.std.proofs.lemmas.List.{take_all, drop_all, get_or_past}
 use Rattle.std.proofs.lemmas.List.Sums.{passes_at_first}
 use Rattle.std.proofs.lemmas.Bool.{cases_lt, eqb-true, and_parts}

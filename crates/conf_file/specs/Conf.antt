@@ -1,5 +1,5 @@
 -- What poudriere.conf says (the comments of poudriere.conf; docs/FORMATS.md, "poudriere.conf").
-use Rattle.std.specs.Prelude.{◌≡◌, ℕ, ◌+◌, Bool, false, nat_lt, List, [], ◌∷◌, length, codes, bytes_eq, find, reverse, unwrap_or, Option, Some, None, if◌then◌else◌}
+use Rattle.std.specs.Prelude.{◌≡◌, ℕ, ◌+◌, false, nat_lt, List, [], ◌∷◌, length, codes, bytes_eq, find, reverse, unwrap_or, Option, Some, None, if◌then◌else◌}
 use Rattle.std.specs.declared.result.Result.{Result}
 use Rattle.std.specs.declared.result.Result.TheVariants.{Ok, Err}
 use Rattle.std.specs.Option.{option_map, option_map_or, option_and_then}

@@ -24,12 +24,7 @@ pub struct Conf {
 }
 
 /// Takes what a line says; a fault is at the line's number.
-fn take_numbered(
-    alloc: Global,
-    conf: &mut Conf,
-    number: u32,
-    line: &[u8],
-) -> Result<(), ConfError>
+fn take_numbered(alloc: Global, conf: &mut Conf, number: u32, line: &[u8]) -> Result<(), ConfError>
     ensures { LeavesAt number (mapped (with_line conf.old) (said line.now)) result conf.new }
 {
     match take_line(alloc, conf, line) {

@@ -47,12 +47,7 @@ fn assign(conf: &mut Conf, name: &[u8], value: Text)
 }
 
 /// Gives a name its value, where it may have it.
-fn take_value(
-    alloc: Global,
-    conf: &mut Conf,
-    name: &[u8],
-    value: &[u8],
-) -> Result<(), LineError>
+fn take_value(alloc: Global, conf: &mut Conf, name: &[u8], value: &[u8]) -> Result<(), LineError>
     requires name { IsText name.now }
     requires value { IsText value.now }
     ensures { Leaves (mapped (with_setting conf.old) (valued name.now (Some value.now))) result conf.new }

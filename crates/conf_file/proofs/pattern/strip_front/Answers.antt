@@ -1,4 +1,4 @@
-use Rattle.std.proofs.Common.{◌≤◌, length, arith, rules}
+use Rattle.std.proofs.Common.{rules}
 use Rattle.conf_file.proofs.Starred.{begins_short}
 use Rattle.conf_file.proofs.pattern.strip_front.Goals as goal
 

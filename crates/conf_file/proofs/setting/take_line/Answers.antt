@@ -1,4 +1,4 @@
-use Rattle.std.proofs.Common.{◌≡◌, ◌∙◌, true, false, sym, ap, arith, rules, subst}
+use Rattle.std.proofs.Common.{◌≡◌, true, false, sym, arith, rules, subst}
 use Rattle.bulk_base.specs.Text.{IsText, is_text}
 use Rattle.bulk_base.proofs.TextTests.{IsText-from_is_text}
 use Rattle.conf_file.specs.Lines.{says_nothing, stated, mapped}

@@ -1,6 +1,5 @@
-use Rattle.std.proofs.Common.{◌∙◌, sym, ap, arith, subst}
+use Rattle.std.proofs.Common.{sym, arith, subst}
 use Rattle.bulk_base.specs.Text.{IsText}
-use Rattle.conf_file.specs.Lines.{value_in}
 use Rattle.conf_file.proofs.Parts.{IsText-front, IsText-back, IsText-value}
 use Rattle.conf_file.proofs.setting.take_statement.Goals as goal
 
