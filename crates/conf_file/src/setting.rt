@@ -50,7 +50,9 @@ fn assign(conf: &mut Conf, name: &[u8], value: Text)
 fn take_value(alloc: Global, conf: &mut Conf, name: &[u8], value: &[u8]) -> Result<(), LineError>
     requires name { IsText name.now }
     requires value { IsText value.now }
-    ensures { Leaves (mapped (with_setting conf.old) (valued name.now (Some value.now))) result conf.new }
+    ensures { Leaves
+        (mapped (with_setting conf.old) (valued name.now (Some value.now)))
+        result conf.new }
 {
     let value = Text::of(alloc, value)?;
     if !is_value(name, &value) {
