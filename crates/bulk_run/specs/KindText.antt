@@ -21,6 +21,8 @@ line_text Reference = codes "bad reference"
 -- a fault in settings
 abbrev pub conf_text : ConfKind → List ℕ
 conf_text (conf.Line kind) = line_text kind
+conf_text conf.Quote = codes "bad quote"
+conf_text (conf.Value name) = codes "unknown value of " ++ name
 
 -- names, each behind a space
 abbrev pub spaced : List (List ℕ) → List ℕ

@@ -41,7 +41,9 @@ fn text(alloc: Global, answer: &Answer) -> Result<String, NoMemory>
         Answer::Builders { asked, had } => {
             Ok(format!(in alloc; "poudriere: {asked} builders asked, {had} rooms\n")?)
         }
-        Answer::BadConf { path, line, kind } => said_at(alloc, path, *line, conf_text(*kind)),
+        Answer::BadConf { path, line, kind } => {
+            said_at(alloc, path, *line, conf_text(alloc, kind)?.as_str())
+        }
         Answer::BadPort { path, line, kind } => {
             said_at(alloc, path, *line, port_text(alloc, kind)?.as_str())
         }

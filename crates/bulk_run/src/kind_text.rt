@@ -23,11 +23,13 @@ fn line_text(kind: LineKind) -> &'static str
 }
 
 /// What is wrong with settings.
-pub(crate) fn conf_text(kind: ConfKind) -> &'static str
-    ensures { result.now ≡ texts.conf_text kind }
+pub(crate) fn conf_text(alloc: Global, kind: &ConfKind) -> Result<String, NoMemory>
+    ensures { IfOk result (λ text. string_bytes text ≡ texts.conf_text kind.now) }
 {
     match kind {
-        ConfKind::Line(kind) => line_text(kind),
+        ConfKind::Line(kind) => Ok(String::from_str(alloc, line_text(*kind))?),
+        ConfKind::Quote => Ok(String::from_str(alloc, "bad quote")?),
+        ConfKind::Value { name } => Ok(format!(in alloc; "unknown value of {name}")?),
     }
 }
 

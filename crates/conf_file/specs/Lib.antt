@@ -1,1 +1,4 @@
 pub mod Make
+pub mod Lines
+pub mod Conf
+pub mod Pattern

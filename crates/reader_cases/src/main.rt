@@ -1,8 +1,9 @@
-//! Cases of the readers of texts, names, variables, options, MOVED and descriptions: a line of standard input each, with fields
-//! between bars, and an answer a line.
+//! Cases of the readers of texts, names, variables, options, MOVED, settings, patterns and descriptions: a line of standard input
+//! each, with fields between bars, and an answer a line.
 #![tactic(auto)]
 
 mod base_cases;
+mod conf_cases;
 mod desc_cases;
 mod moved_cases;
 mod name_cases;
@@ -41,6 +42,7 @@ fn answer_one(alloc: Global, kind: &str, field: &str, out: &mut Vec<u8>) -> Resu
         "moved lines" => moved_cases::answer_lines(alloc, field, out),
         "order" => base_cases::answer_order(alloc, field, out),
         "flavors" => desc_cases::answer_flavors(alloc, field, out),
+        "conf" => conf_cases::answer_conf(alloc, field, out),
         "missing" => desc_cases::answer_missing(alloc, field, out),
         _ => Err(CaseError::Unfit),
     }
@@ -59,6 +61,7 @@ fn answer_two(
         "find" => base_cases::answer_find(alloc, first, second, out),
         "vars" => vars_cases::answer_value(alloc, first, second, out),
         "words of" => option_cases::answer_words_of(alloc, first, second, out),
+        "match" => conf_cases::answer_match(alloc, first, second, out),
         "set" => name_cases::answer_set(alloc, first, second, out),
         _ => Err(CaseError::Unfit),
     }

@@ -1,8 +1,9 @@
 // Options and their layers.
-use crate::vars_cases::{kind_name, vars_of};
+use crate::conf_cases::push_fault;
+use crate::vars_cases::vars_of;
 use bulk_base::{Switch, Text, Texts};
 use case_text::{CaseError, bytes_of, push_str, push_text, push_texts, text_of, words_of};
-use conf_file::{ConfError, ConfKind, MakeConf, read_make};
+use conf_file::{MakeConf, read_make};
 use option_set::{Layers, OptionError, asked, choose};
 use port_name::Origin;
 use port_vars::{Vars, words_in};
@@ -154,18 +155,6 @@ pub(crate) fn answer_words_of(
     Ok(push_words(alloc, &vars, &name, out)?)
 }
 
-fn push_fault(alloc: Global, fault: ConfError, out: &mut Vec<u8>) -> Result<(), AllocError> {
-    if let ConfError::BadLine {
-        kind: ConfKind::Line(kind),
-        ..
-    } = fault
-    {
-        push_str(out, kind_name(kind))?;
-        push_str(out, ": ")?;
-    }
-    push_str(out, fault.to_string(alloc)?.as_str())
-}
-
 fn origin_a_x(alloc: Global) -> Result<Origin, AllocError> {
     let category = Text::literal(alloc, b"a")?;
     let port = Text::literal(alloc, b"x")?;
@@ -207,6 +196,6 @@ pub(crate) fn answer_make(
 ) -> Result<(), CaseError> {
     match read_make(alloc, bytes_of(alloc, make)?.as_slice()) {
         Ok(make) => make_by(alloc, &make, file, port, out),
-        Err(fault) => Ok(push_fault(alloc, fault, out)?),
+        Err(fault) => Ok(push_fault(alloc, &fault, out)?),
     }
 }
