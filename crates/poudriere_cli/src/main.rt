@@ -23,7 +23,7 @@ use crate::dir_tree::DirTree;
 use crate::out_sink::OutSink;
 use crate::words::{WordsError, command_words};
 use bulk_base::NoMemory;
-use bulk_run::Finished;
+use one_port::Finished;
 use outside::{OpenGate, Sink};
 use std::alloc::Global;
 use std::process::ExitCode;
@@ -102,7 +102,7 @@ fn main(rt: HostRuntime) -> ExitCode {
         answer: _,
         store: _,
         rooms: _,
-    } = bulk_run::poudriere(
+    } = one_port::poudriere(
         &rt,
         alloc,
         words.as_slice(),

@@ -1,6 +1,6 @@
 // How runs end.
-use bulk_run::{Answer, Closed};
 use case_text::{push_number, push_str};
+use one_port::{Answer, Closed};
 use std::alloc::{AllocError, Global};
 
 /// The variant of an answer.

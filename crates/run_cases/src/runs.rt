@@ -4,8 +4,8 @@ use crate::memory::{MemRoom, MemSink, MemStore, MemTree, Outer, Store};
 use crate::stores::{items_of, push_names};
 use crate::trees::tree_of;
 use bulk_base::{Text, Texts};
-use bulk_run::{Closed, bulk_alone};
 use case_text::{CaseError, fails_of, files_of, push_str, push_texts, text_of, words_of};
+use one_port::{Closed, bulk_alone};
 use std::alloc::{AllocError, Global};
 
 /// How a run ended, and the objects that it leaves.

@@ -1,5 +1,0 @@
-use Rattle.std.proofs.Common.{◌∙◌, append_assoc}
-use Rattle.bulk_run.proofs.kind_text.port_text.Goals as goal
-
-pub returns-in_ok-format-in-Prevented : goal.returns-in_ok-format-in-Prevented
-returns-in_ok-format-in-Prevented c = rw c.in-Prevented.is (c.in_ok-format-in-Prevented.ensures.ok ∙ simp append_assoc)

@@ -1,7 +1,0 @@
-use Rattle.std.proofs.Common.{◌≡◌, take}
-use Rattle.std.specs.String.{string_bytes}
-use Rattle.bulk_run.specs.KindText.{spaced}
-use Rattle.bulk_run.proofs.kind_text.spaced.Given as goal
-
-abbrev pub invariant-loop-name : goal.invariant-loop-name
-invariant-loop-name l = string_bytes l.text ≡ spaced (take l.name-index l.names)

@@ -1,8 +1,0 @@
-use Rattle.std.proofs.Common.{◌≡◌, take}
-use Rattle.std.specs.Prelude.{None, find}
-use Rattle.bulk_run.specs.NodeJobs.{nodes_at}
-use Rattle.bulk_run.specs.Unserved.{is_unserved}
-use Rattle.bulk_run.proofs.unserved.first_unserved.Given as goal
-
-abbrev pub invariant-loop-number : goal.invariant-loop-number
-invariant-loop-number l = find is_unserved (nodes_at l.nodes (take l.number-index l.numbers)) ≡ None
