@@ -161,21 +161,60 @@ check_two_ports_of_one_name_ignored() {
   refuses 'poudriere: a/x and a/y are both x-1.0'
 }
 
-# A tree has at most 16,384 nodes. Here eight ports have 2,048 flavors each, all
-# with packages of one name. Nodes are counted behind all files, and before names
-# are compared.
+# wide_tree PORT..: a tree of eight categories, each with these ports of two lines.
+wide_tree() {
+  local category port
+  mkdir -p tree/ports
+  printf 'SUBDIR=%s\n' 'c0 c1 c2 c3 c4 c5 c6 c7' >tree/ports/subdir.vars
+  for category in c{0..7}; do
+    mkdir -p "${@/#/tree/ports/$category/}"
+    printf 'SUBDIR += %s\n' "$@" >"tree/ports/$category/subdir.vars"
+    for port in "$@"; do
+      printf 'PORTNAME=%s-%s\nPORTVERSION=1\n' "$category" "$port" >"tree/ports/$category/$port/port.vars"
+    done
+  done
+}
+
+# A tree has at most 65,535 nodes, which are counted behind all files: here 65,536
+# ports, then one fewer.
 check_most_nodes() {
-  local port
-  for port in a b c d e f g h; do
-    port "a/$port" PORTNAME=x PORTVERSION=1 "FLAVORS=$(echo x{{a..z},{0..5}}{{a..z},{0..5}})" \
-      "FLAVORS+=$(echo y{{a..z},{0..5}}{{a..z},{0..5}})"
+  local -a ports
+  read -r -a ports <<<"$(seq -s ' ' -f 'p%04.0f' 0 8191)"
+  wide_tree "${ports[@]}"
+  bulk c3/p0007
+  refuses 'poudriere: limit Nodes: 65536'
+  printf 'PORTNAME\n' >tree/ports/c7/p8191/port.vars
+  bulk c3/p0007
+  refuses 'poudriere: ports/c7/p8191/port.vars:1: no operator'
+  sed -i '$d' tree/ports/c7/subdir.vars
+  bulk c3/p0007
+  built c3/p0007 c3-p0007-1
+  want_package c3-p0007-1 c3/p0007
+}
+
+# Descriptions have at most 268,435,456 bytes, those of a port counted once for
+# each of its nodes. Here 65 ports have 1,024 flavors each and 4,129 bytes, so the
+# 64th passes it; their nodes are too many, which would be told behind all files.
+check_most_bytes_of_descriptions() {
+  local number flavors
+  flavors=$(echo x{{a..z},{0..5}}{{a..z},{0..5}})
+  for number in {10..74}; do
+    port "a/p$number" PORTNAME=x PORTVERSION=1 "FLAVORS=$flavors"
   done
   bulk b/none
-  refuses 'poudriere: a/a@x00 and a/a@x01 are both x-1'
-  port a/i PORTNAME=x PORTVERSION=1
+  refuses 'poudriere: limit VarsBytes: 270598144'
+  sed -i 1d tree/ports/a/p73/port.vars
   bulk b/none
-  refuses 'poudriere: limit Nodes: 16385'
-  port z/z PORTNAME
-  bulk b/none
-  refuses 'poudriere: ports/z/z/port.vars:1: no operator'
+  refuses 'poudriere: ports/a/p73/port.vars:0: missing PORTNAME'
+}
+
+# A list may be one line of 600,000 bytes; a description's lines stay short.
+check_a_long_list() {
+  ax
+  printf 'SUBDIR=x%599992s\n' x >tree/ports/a/subdir.vars
+  bulk a/x
+  built_empty
+  printf 'A=%8200s\n' x >>tree/ports/a/x/port.vars
+  bulk a/x
+  refuses 'poudriere: ports/a/x/port.vars:3: too long'
 }
