@@ -1,0 +1,5 @@
+pub mod Tests
+pub mod Inside
+pub mod Noting
+pub mod Read
+pub mod Sets

@@ -1,0 +1,5 @@
+pub mod Hashes
+pub mod Lines
+pub mod Distinfo
+pub mod Stated
+pub mod Checked

@@ -1,0 +1,9 @@
+pub mod Faults
+pub mod Parts
+pub mod Fronts
+pub mod Members
+pub mod Nested
+pub mod Kept
+pub mod Tables
+pub mod Told
+pub mod Walks
