@@ -1,0 +1,3 @@
+pub mod QueueView
+pub mod Inner
+pub mod Taking
