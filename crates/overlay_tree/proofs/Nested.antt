@@ -1,12 +1,15 @@
 -- Which files of a tree may stand below which.
 use Rattle.std.proofs.Common.{◌≡◌, ℕ, ◌+◌, ◌<◌, ◌≤◌, Bool, true, false, List, [], ◌∷◌, ◌++◌, length, drop, arith, ap, sym, ◌∙◌, refl, subst, inl, inr, true≢false}
 use Rattle.std.specs.Prelude.{◌⊎◌, not, ◌&&◌, ◌||◌, nat_lt, codes, bytes_eq}
-use Rattle.std.proofs.lemmas.Bool.{and_parts, or_cases, cases_Bool}
+use Rattle.std.proofs.lemmas.Bool.{and_parts, and_from, or_cases, cases_Bool}
+use Rattle.std.proofs.lemmas.List.{length-take, length-append}
+use Rattle.std.specs.List.{position_or_len}
+use Rattle.bulk_base.specs.Marks.{is_mark}
 use Rattle.std.proofs.lemmas.Bool.Decides.{nat_tests}
 use Rattle.std.proofs.lemmas.Slice.Eq.{bytes_eq-Decides}
 use Rattle.bulk_base.specs.Path.{is_below}
 use Rattle.bulk_base.proofs.Paths.{below_is_joined}
-use Rattle.overlay_tree.specs.Places.{first, behind, second, third, port_of, is_deep, is_in_ports, is_base, is_base_part, is_reserved, is_list_name, is_category_list, is_joined, is_port_file}
+use Rattle.overlay_tree.specs.Places.{first, behind, second, third, port_of, is_deep, is_in_ports, is_base, is_in_base, is_base_part, is_reserved, is_list_name, is_category_list, is_joined, is_port_file}
 use Rattle.overlay_tree.proofs.Parts.{slashes, slashes-append, slashes-behind, behind-append, first-append, below_front, same_front, below_below}
 
 -- a file that a list may keep
@@ -138,36 +141,18 @@ first_below folder path below = ap first (below_is_joined folder path below) ∙
 ports_no_base : (part : List ℕ) → bytes_eq part (codes "ports") ≡ true → is_base_part part ≡ false
 ports_no_base part h = subst (λ t. is_base_part t ≡ false) (sym ((bytes_eq-Decides part (codes "ports")).0 h)) refl
 
-pub in_ports_no_base : (folder path : List ℕ) → is_in_ports folder ≡ true → is_below folder path ≡ true → is_base path ≡ false
-in_ports_no_base folder path h below = ports_no_base (first path) (ap (λ t. bytes_eq t (codes "ports")) (first_below folder path below) ∙ h)
+pub in_ports_no_base : (folder path : List ℕ) → is_in_ports folder ≡ true → is_below folder path ≡ true → is_in_base path ≡ false
+in_ports_no_base folder path h below =
+    ap (λ b. b && nat_lt (length (first path)) (length path)) (ports_no_base (first path) (ap (λ t. bytes_eq t (codes "ports")) (first_below folder path below) ∙ h))
 
-pub below_base : (folder path : List ℕ) → is_base folder ≡ true → is_below folder path ≡ true → is_base path ≡ true
-below_base folder path h below = ap is_base_part (first_below folder path below) ∙ h
+-- what is below a folder is longer than its first part
+longer_below : (folder path : List ℕ) → is_below folder path ≡ true → length (first path) < length path
+longer_below folder path below =
+    let e : path ≡ folder ++ 47 ∷ drop (length folder + 1) path = below_is_joined folder path below in
+    omega (arith, ap length (first_below folder path below), length-take (position_or_len (is_mark 47) folder) folder, ap length e, length-append folder (47 ∷ drop (length folder + 1) path))
 
-concrete_ports : (path : List ℕ) → is_joined path ≡ true → is_in_ports path ≡ true
-concrete_ports path h = elim (or_cases (bytes_eq path (codes "ports/subdir.vars") || bytes_eq path (codes "ports/MOVED")) (is_category_list path) h) [
-  | inl a ↦ elim (or_cases (bytes_eq path (codes "ports/subdir.vars")) (bytes_eq path (codes "ports/MOVED")) a) [
-    | inl e ↦ subst (λ t. is_in_ports t ≡ true) (sym ((bytes_eq-Decides path (codes "ports/subdir.vars")).0 e)) refl
-    | inr e ↦ subst (λ t. is_in_ports t ≡ true) (sym ((bytes_eq-Decides path (codes "ports/MOVED")).0 e)) refl
-  ]
-  | inr c ↦ (let a = and_parts (is_in_ports path && not (is_reserved (second path)) && is_list_name (third path)) (not (is_deep path)) c in
-      let b = and_parts (is_in_ports path && not (is_reserved (second path))) (is_list_name (third path)) a.0 in
-      (and_parts (is_in_ports path) (not (is_reserved (second path))) b.0).0)
-]
+lt_true : (a b : ℕ) → a < b → nat_lt a b ≡ true
+lt_true a b l = grind (arith, nat_tests)
 
-port_ports : (path : List ℕ) → is_port_file path ≡ true → is_in_ports path ≡ true
-port_ports path h =
-    let a = and_parts (is_in_ports path && not (is_reserved (second path)) && not (is_list_name (third path))) (is_deep path) h in
-    let b = and_parts (is_in_ports path && not (is_reserved (second path))) (not (is_list_name (third path))) a.0 in
-    (and_parts (is_in_ports path) (not (is_reserved (second path))) b.0).0
-
--- elsewhere there is nothing that a list may keep
-pub elsewhere : (folder path : List ℕ) → is_in_ports folder ≡ false → is_below folder path ≡ true → is_kind path ≡ false
-elsewhere folder path h below = by_kind (cases_Bool (is_kind path))
-  where
-    apart : is_in_ports path ≡ true → ⊥
-    apart t = true≢false (sym t ∙ ap (λ f. bytes_eq f (codes "ports")) (first_below folder path below) ∙ h)
-
-    by_kind : (is_kind path ≡ true) ⊎ (is_kind path ≡ false) → is_kind path ≡ false
-    by_kind (inl kind) = elim (or_cases (is_joined path) (is_port_file path) kind) [ inl j ↦ absurd (apart (concrete_ports path j)) | inr p ↦ absurd (apart (port_ports path p)) ]
-    by_kind (inr none) = none
+pub below_base : (folder path : List ℕ) → is_base folder ≡ true → is_below folder path ≡ true → is_in_base path ≡ true
+below_base folder path h below = and_from _ _ (ap is_base_part (first_below folder path below) ∙ h) (lt_true _ _ (longer_below folder path below))

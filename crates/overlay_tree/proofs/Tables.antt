@@ -17,7 +17,7 @@ use Rattle.bulk_base.proofs.InOrder.{list_any-set_of}
 use Rattle.bulk_base.proofs.MapView.{order}
 use Rattle.outside.specs.Contents.{Contents}
 use Rattle.overlay_tree.specs.Merged.{entry, tabulated, every_path, with_piece, joined_file, has_below, last_file, merged_file, merged}
-use Rattle.overlay_tree.specs.Places.{port_of, is_base, is_joined, is_port_file}
+use Rattle.overlay_tree.specs.Places.{port_of, is_in_base, is_joined, is_port_file}
 
 abbrev File : Type 0
 File = List ℕ → Option (List ℕ)
@@ -96,10 +96,10 @@ no_file base overlays q h =
     let first : get base q ≡ None = (apart_paths base overlays q h).0 in
     let pieces : joined_file (base ∷ overlays) q ≡ None = ap (fold with_piece None) (no_pieces (base ∷ overlays) q h) in
     let last : last_file (port_of q) (base ∷ overlays) q ≡ None = no_last (port_of q) (base ∷ overlays) q h in
-    ap (λ o. cond (is_base q) o (cond (is_joined q) (joined_file (base ∷ overlays) q) (cond (is_port_file q) (last_file (port_of q) (base ∷ overlays) q) None))) first
-    ∙ ap (λ o. cond (is_base q) None (cond (is_joined q) o (cond (is_port_file q) (last_file (port_of q) (base ∷ overlays) q) None))) pieces
-    ∙ ap (λ o. cond (is_base q) None (cond (is_joined q) None (cond (is_port_file q) o None))) last
-    ∙ all_none (is_base q) (is_joined q) (is_port_file q)
+    ap (λ o. cond (is_in_base q) o (cond (is_joined q) (joined_file (base ∷ overlays) q) (cond (is_port_file q) (last_file (port_of q) (base ∷ overlays) q) None))) first
+    ∙ ap (λ o. cond (is_in_base q) None (cond (is_joined q) o (cond (is_port_file q) (last_file (port_of q) (base ∷ overlays) q) None))) pieces
+    ∙ ap (λ o. cond (is_in_base q) None (cond (is_joined q) None (cond (is_port_file q) o None))) last
+    ∙ all_none (is_in_base q) (is_joined q) (is_port_file q)
   where
     all_none : (a b c : Bool) → cond a (let o : Option (List ℕ) = None in o) (cond b None (cond c None None)) ≡ None
     all_none true b c = refl

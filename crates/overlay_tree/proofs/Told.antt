@@ -1,6 +1,6 @@
 -- What the merged content lists and holds, by what the trees list and hold.
 use Rattle.std.proofs.Common.{◌≡◌, ℕ, ◌+◌, ◌<◌, Bool, true, false, List, [], ◌∷◌, ◌++◌, length, get_or, take, drop, arith, ap, ap₂, sym, ◌∙◌, refl, subst, cond, inl, inr}
-use Rattle.std.specs.Prelude.{◌⊎◌, not, ◌&&◌, ◌||◌, ◌==◌, filter, map as each, Option, Some, None, is_some}
+use Rattle.std.specs.Prelude.{◌⊎◌, not, ◌&&◌, ◌||◌, ◌==◌, nat_lt, filter, map as each, Option, Some, None, is_some}
 use Rattle.std.specs.Option.{option_map}
 use Rattle.std.specs.Ordering.{eq_by_cmp}
 use Rattle.std.specs.Cmp.Lexicographic.{texts_ties}
@@ -20,7 +20,7 @@ use Rattle.outside.specs.Contents.{Contents, IsListing, IsAscending, files_below
 use Rattle.outside.proofs.Listings.{has_no_folder-filter, list_all_kept}
 use Rattle.overlay_tree.specs.Listed.{Alike, all_of, stays, kept_of}
 use Rattle.overlay_tree.specs.Merged.{with_piece, joined_file, has_below, last_file, merged_file, merged}
-use Rattle.overlay_tree.specs.Places.{port_of, is_base, is_base_part, is_in_ports, is_joined, is_port_file}
+use Rattle.overlay_tree.specs.Places.{first, port_of, is_base, is_in_base, is_base_part, is_in_ports, is_joined, is_port_file}
 use Rattle.overlay_tree.proofs.Members.{Alike-filter, any_filter, all_alike, has_no_folder-alike, same_list}
 use Rattle.overlay_tree.proofs.Kept.{kept_apart}
 use Rattle.overlay_tree.proofs.Nested.{is_kind, in_ports_no_base, below_base, elsewhere, below_port, joined_is_no_port, first_below}
@@ -196,7 +196,7 @@ kept_is : (folder q : List ℕ) (base next : Contents) (more : List Contents) �
 kept_is folder q base next more ports below =
     by_joined (cases_Bool (is_joined q))
   where
-    no_base : is_base q ≡ false
+    no_base : is_in_base q ≡ false
     no_base = in_ports_no_base folder q ports below
 
     root_below : is_below (port_of folder) q ≡ true
@@ -241,7 +241,7 @@ ports_told folder (base ∷ next ∷ more) paths ports l ascends alike =
 
 -- ---- and elsewhere
 
-base_file : (base next : Contents) (more : List Contents) (q : List ℕ) → is_base q ≡ true → get (merged (base ∷ next ∷ more)) q ≡ get base q
+base_file : (base next : Contents) (more : List Contents) (q : List ℕ) → is_in_base q ≡ true → get (merged (base ∷ next ∷ more)) q ≡ get base q
 base_file base next more q h =
     get_merged base next more q
     ∙ ap (λ b. cond b (get base q) (cond (is_joined q) (joined_file (base ∷ next ∷ more) q) (cond (is_port_file q) (last_file (port_of q) (base ∷ next ∷ more) q) None))) h
@@ -263,12 +263,12 @@ base_names folder (base ∷ next ∷ more) l h =
     let n : length (base ∷ next ∷ more) ≡ length more + 2 = omega arith in
     base_below folder base next more (more_than_one (length more) (is_base folder) (subst (λ k. (k == 1 || is_base folder) ≡ true) n h))
 
-pub base_bytes : (most : ℕ) (file : List ℕ) (contents : List Contents) → 0 < length contents → (length contents == 1 || is_base file) ≡ true → first_bytes most file (get_or contents 0 empty) ≡ first_bytes most file (merged contents)
+pub base_bytes : (most : ℕ) (file : List ℕ) (contents : List Contents) → 0 < length contents → (length contents == 1 || is_in_base file) ≡ true → first_bytes most file (get_or contents 0 empty) ≡ first_bytes most file (merged contents)
 base_bytes most file [] l h = absurd (omega arith)
 base_bytes most file (base ∷ []) l h = ap (first_bytes most file) (sym (merged_alone base))
 base_bytes most file (base ∷ next ∷ more) l h =
     let n : length (base ∷ next ∷ more) ≡ length more + 2 = omega arith in
-    ap (option_map (take most)) (sym (base_file base next more file (more_than_one (length more) (is_base file) (subst (λ k. (k == 1 || is_base file) ≡ true) n h))))
+    ap (option_map (take most)) (sym (base_file base next more file (more_than_one (length more) (is_in_base file) (subst (λ k. (k == 1 || is_in_base file) ≡ true) n h))))
 
 pub nothing_there : (folder : List ℕ) (contents : List Contents) → 0 < length contents → (length contents == 1 || is_base folder) ≡ false → is_in_ports folder ≡ false → [] ≡ files_below folder (merged contents)
 unfolding IsStrictlySortedBy
@@ -287,31 +287,31 @@ nothing_there folder (base ∷ next ∷ more) l h p =
     no_kind : (q : List ℕ) → is_below folder q ≡ true → merged_file base (next ∷ more) q ≡ None
     no_kind q below =
         let kinds = or_none (is_joined q) (is_port_file q) (elsewhere folder q p below) in
-        let other : is_base q ≡ false = ap is_base_part (first_below folder q below) ∙ (or_none _ (is_base folder) h).1 in
+        let other : is_in_base q ≡ false = ap (λ b. b && nat_lt (length (first q)) (length q)) (ap is_base_part (first_below folder q below) ∙ (or_none _ (is_base folder) h).1) in
         ap (λ b. cond b (get base q) (cond (is_joined q) (joined_file (base ∷ next ∷ more) q) (cond (is_port_file q) (last_file (port_of q) (base ∷ next ∷ more) q) None))) other
         ∙ ap₂ (λ a b. cond a (joined_file (base ∷ next ∷ more) q) (cond b (last_file (port_of q) (base ∷ next ∷ more) q) None)) kinds.0 kinds.1
 
 -- ---- a file of the merged content, by its place
 
-pub laid_bytes : (most : ℕ) (file : List ℕ) (contents : List Contents) → 0 < length contents → (length contents == 1 || is_base file) ≡ false
+pub laid_bytes : (most : ℕ) (file : List ℕ) (contents : List Contents) → 0 < length contents → (length contents == 1 || is_in_base file) ≡ false
     → option_map (take most) (cond (is_joined file) (joined_file contents file) (cond (is_port_file file) (last_file (port_of file) contents file) None)) ≡ first_bytes most file (merged contents)
 laid_bytes most file [] l h = absurd (omega arith)
 laid_bytes most file (base ∷ []) l h = absurd cc
 laid_bytes most file (base ∷ next ∷ more) l h =
     ap (option_map (take most)) (sym (get_merged base next more file
-    ∙ ap (λ b. cond b (get base file) (cond (is_joined file) (joined_file (base ∷ next ∷ more) file) (cond (is_port_file file) (last_file (port_of file) (base ∷ next ∷ more) file) None))) (or_none _ (is_base file) h).1))
+    ∙ ap (λ b. cond b (get base file) (cond (is_joined file) (joined_file (base ∷ next ∷ more) file) (cond (is_port_file file) (last_file (port_of file) (base ∷ next ∷ more) file) None))) (or_none _ (is_in_base file) h).1))
 
-pub joined_told : (most : ℕ) (file : List ℕ) (contents : List Contents) → 0 < length contents → (length contents == 1 || is_base file) ≡ false → is_joined file ≡ true
+pub joined_told : (most : ℕ) (file : List ℕ) (contents : List Contents) → 0 < length contents → (length contents == 1 || is_in_base file) ≡ false → is_joined file ≡ true
     → option_map (take most) (joined_file contents file) ≡ first_bytes most file (merged contents)
 joined_told most file contents l h j =
     sym (ap (λ b. option_map (take most) (cond b (joined_file contents file) (cond (is_port_file file) (last_file (port_of file) contents file) None))) j) ∙ laid_bytes most file contents l h
 
-pub port_told : (most : ℕ) (file : List ℕ) (contents : List Contents) → 0 < length contents → (length contents == 1 || is_base file) ≡ false → is_joined file ≡ false → is_port_file file ≡ true
+pub port_told : (most : ℕ) (file : List ℕ) (contents : List Contents) → 0 < length contents → (length contents == 1 || is_in_base file) ≡ false → is_joined file ≡ false → is_port_file file ≡ true
     → option_map (take most) (last_file (port_of file) contents file) ≡ first_bytes most file (merged contents)
 port_told most file contents l h j p =
     sym (ap₂ (λ a b. option_map (take most) (cond a (joined_file contents file) (cond b (last_file (port_of file) contents file) None))) j p) ∙ laid_bytes most file contents l h
 
-pub none_told : (most : ℕ) (file : List ℕ) (contents : List Contents) → 0 < length contents → (length contents == 1 || is_base file) ≡ false → is_joined file ≡ false → is_port_file file ≡ false
+pub none_told : (most : ℕ) (file : List ℕ) (contents : List Contents) → 0 < length contents → (length contents == 1 || is_in_base file) ≡ false → is_joined file ≡ false → is_port_file file ≡ false
     → None ≡ first_bytes most file (merged contents)
 none_told most file contents l h j p =
     sym (ap₂ (λ a b. option_map (take most) (cond a (joined_file contents file) (cond b (last_file (port_of file) contents file) None))) j p) ∙ laid_bytes most file contents l h

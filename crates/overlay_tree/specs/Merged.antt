@@ -7,7 +7,7 @@ use Rattle.std.specs.FinMap.{get, keys, from_entries}
 use Rattle.bulk_base.specs.Order.{in_order}
 use Rattle.bulk_base.specs.Path.{is_below}
 use Rattle.outside.specs.Contents.{Contents}
-use Rattle.overlay_tree.specs.Places.{port_of, is_base, is_joined, is_port_file}
+use Rattle.overlay_tree.specs.Places.{port_of, is_in_base, is_joined, is_port_file}
 
 -- one piece behind others, a line feed between
 abbrev pub with_piece : Option (List ℕ) → List ℕ → Option (List ℕ)
@@ -30,7 +30,7 @@ last_file port (content ∷ later) path = if list_any (has_below port) later the
 -- a file of the tree, of which these are the contents, the base's first
 abbrev pub merged_file : Contents → List Contents → List ℕ → Option (List ℕ)
 merged_file base overlays path =
-    if is_base path then get base path
+    if is_in_base path then get base path
     else if is_joined path then joined_file (base ∷ overlays) path
     else if is_port_file path then last_file (port_of path) (base ∷ overlays) path
     else None

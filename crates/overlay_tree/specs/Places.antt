@@ -1,5 +1,5 @@
 -- Where a path of a ports tree stands (docs/FORMATS.md).
-use Rattle.std.specs.Prelude.{ℕ, zero, suc, Bool, not, ◌&&◌, ◌||◌, ◌==◌, nat_lt, List, [], ◌∷◌, count_by, codes, bytes_eq, if◌then◌else◌}
+use Rattle.std.specs.Prelude.{ℕ, zero, suc, Bool, not, ◌&&◌, ◌||◌, ◌==◌, nat_lt, List, [], ◌∷◌, length, count_by, codes, bytes_eq, if◌then◌else◌}
 use Rattle.bulk_base.specs.Marks.{front, back}
 
 -- the first part of a path, and what stands behind it
@@ -16,6 +16,10 @@ is_base_part part =
 -- the path is `etc`, `base` or `distfiles`, or stands below one of them
 abbrev pub is_base : List ℕ → Bool
 is_base path = is_base_part (first path)
+
+-- the path stands below `etc`, `base` or `distfiles`
+abbrev pub is_in_base : List ℕ → Bool
+is_in_base path = is_base path && nat_lt (length (first path)) (length path)
 
 -- the path is `ports` or stands below it
 abbrev pub is_in_ports : List ℕ → Bool

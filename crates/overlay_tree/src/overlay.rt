@@ -8,7 +8,7 @@ ghost use Rattle.overlay_tree.specs.Places as places;
 ghost use Rattle.overlay_tree.specs.Listed.{total};
 
 use crate::merging::merge;
-use crate::placing::{is_base, is_in_ports, is_joined, is_port_file, port_of};
+use crate::placing::{is_base, is_in_base, is_in_ports, is_joined, is_port_file, port_of};
 use bulk_base::{Path, Paths, Sequence};
 use outside::{Outer, Tree};
 use std::alloc::Global;
@@ -53,13 +53,21 @@ impl<T> Overlay<T> {
         (base, overlays)
     }
 
-    // Whether the base alone says what is at a path and below it.
-    fn is_of_base(&self, path: &Path) -> bool
-        ensures base { result ≡ (length self.now == 1 || places.is_base path.now) }
+    // Whether the base alone says what is below a folder.
+    fn is_base_folder(&self, folder: &Path) -> bool
+        ensures base { result ≡ (length self.now == 1 || places.is_base folder.now) }
         ensures laid { result ≡ false → 1 < length self.now }
         ensures some { 0 < length self.now }
     {
-        self.overlays.is_empty() || is_base(path.bytes())
+        self.overlays.is_empty() || is_base(folder.bytes())
+    }
+
+    // Whether the base alone says what is at a path.
+    fn is_base_file(&self, file: &Path) -> bool
+        ensures base { result ≡ (length self.now == 1 || places.is_in_base file.now) }
+        ensures some { 0 < length self.now }
+    {
+        self.overlays.is_empty() || is_in_base(file.bytes())
     }
 }
 
@@ -105,7 +113,7 @@ impl<T: Tree> Tree for Overlay<T> {
     ghost faults = { λ trees. total T.faults trees };
 
     fn names(&mut self, alloc: Global, folder: &Path) -> Result<Paths, Outer> {
-        if self.is_of_base(folder) {
+        if self.is_base_folder(folder) {
             return self.names_at(alloc, 0, folder);
         }
         if is_in_ports(folder.bytes()) {
@@ -115,7 +123,7 @@ impl<T: Tree> Tree for Overlay<T> {
     }
 
     fn bytes(&mut self, alloc: Global, file: &Path, most: u64) -> Result<Option<Vec<u8>>, Outer> {
-        if self.is_of_base(file) {
+        if self.is_base_file(file) {
             return self.bytes_at(alloc, 0, file, most);
         }
         if is_joined(file.bytes()) {

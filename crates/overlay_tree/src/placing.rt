@@ -19,6 +19,14 @@ pub(crate) fn is_base(path: &[u8]) -> bool
     is_base_part(cut(path, b'/').0)
 }
 
+/// Whether a path stands below `etc`, `base` or `distfiles`.
+pub(crate) fn is_in_base(path: &[u8]) -> bool
+    ensures { result ≡ places.is_in_base path.now }
+{
+    let first = cut(path, b'/').0;
+    is_base_part(first) && first.len() < path.len()
+}
+
 /// Whether a path is `ports` or stands below it.
 pub(crate) fn is_in_ports(path: &[u8]) -> bool
     ensures { result ≡ places.is_in_ports path.now }
