@@ -156,3 +156,31 @@ lt_true a b l = grind (arith, nat_tests)
 
 pub below_base : (folder path : List ℕ) → is_base folder ≡ true → is_below folder path ≡ true → is_in_base path ≡ true
 below_base folder path h below = and_from _ _ (ap is_base_part (first_below folder path below) ∙ h) (lt_true _ _ (longer_below folder path below))
+
+concrete_ports : (path : List ℕ) → is_joined path ≡ true → is_in_ports path ≡ true
+concrete_ports path h = elim (or_cases (bytes_eq path (codes "ports/subdir.vars") || bytes_eq path (codes "ports/MOVED")) (is_category_list path) h) [
+  | inl a ↦ elim (or_cases (bytes_eq path (codes "ports/subdir.vars")) (bytes_eq path (codes "ports/MOVED")) a) [
+    | inl e ↦ subst (λ t. is_in_ports t ≡ true) (sym ((bytes_eq-Decides path (codes "ports/subdir.vars")).0 e)) refl
+    | inr e ↦ subst (λ t. is_in_ports t ≡ true) (sym ((bytes_eq-Decides path (codes "ports/MOVED")).0 e)) refl
+  ]
+  | inr c ↦ (let a = and_parts (is_in_ports path && not (is_reserved (second path)) && is_list_name (third path)) (not (is_deep path)) c in
+      let b = and_parts (is_in_ports path && not (is_reserved (second path))) (is_list_name (third path)) a.0 in
+      (and_parts (is_in_ports path) (not (is_reserved (second path))) b.0).0)
+]
+
+port_ports : (path : List ℕ) → is_port_file path ≡ true → is_in_ports path ≡ true
+port_ports path h =
+    let a = and_parts (is_in_ports path && not (is_reserved (second path)) && not (is_list_name (third path))) (is_deep path) h in
+    let b = and_parts (is_in_ports path && not (is_reserved (second path))) (not (is_list_name (third path))) a.0 in
+    (and_parts (is_in_ports path) (not (is_reserved (second path))) b.0).0
+
+-- elsewhere there is nothing that a list may keep
+pub elsewhere : (folder path : List ℕ) → is_in_ports folder ≡ false → is_below folder path ≡ true → is_kind path ≡ false
+elsewhere folder path h below = by_kind (cases_Bool (is_kind path))
+  where
+    apart : is_in_ports path ≡ true → ⊥
+    apart t = true≢false (sym t ∙ ap (λ f. bytes_eq f (codes "ports")) (first_below folder path below) ∙ h)
+
+    by_kind : (is_kind path ≡ true) ⊎ (is_kind path ≡ false) → is_kind path ≡ false
+    by_kind (inl kind) = elim (or_cases (is_joined path) (is_port_file path) kind) [ inl j ↦ absurd (apart (concrete_ports path j)) | inr p ↦ absurd (apart (port_ports path p)) ]
+    by_kind (inr none) = none
