@@ -6,7 +6,7 @@ use Rattle.std.specs.List.{cons_option}
 use Rattle.std.proofs.lemmas.List.{append_assoc, append-nil, at_drop_more, at_drop_all, take_more, map-append, take_all, take-append-drop}
 use Rattle.std.proofs.lemmas.List.Elements.{filter_map-append}
 use Rattle.std.proofs.lemmas.List.Folds.{find-append}
-use Rattle.port_vars.specs.Assignment.{◌>>=◌}
+use Rattle.port_vars.specs.Assignment.{mapped, ◌>>=◌}
 use Rattle.outside.specs.Contents.{Contents}
 use Rattle.bulk_base.specs.Names.{IsOrigin}
 use Rattle.bulk_base.specs.declared.file.FileItem.{FileItem}
@@ -16,7 +16,6 @@ use Rattle.tree_index.specs.declared.node.NodeInfo.{NodeInfo}
 use Rattle.tree_index.specs.Facts.{IsNodeInfo, IsPlace}
 use Rattle.tree_index.specs.Places.{origin_name}
 use Rattle.port_name.specs.declared.place.Origin.{Origin}
-use Rattle.tree_index.proofs.InTurn.{joined}
 use Rattle.one_port.specs.declared.answer.Answer.{Answer}
 use Rattle.one_port.specs.NodeJobs.{job_with, job_in, jobs_in, nodes_at}
 use Rattle.one_port.specs.PortsWanted.{names_of}
@@ -38,6 +37,10 @@ IsJob-node node files h f = record {
 }
 
 -- ---- jobs of nodes with some numbers, one after another
+
+-- the jobs so far, and then what the rest gives
+abbrev pub joined : List JobView → Result (List JobView) Answer → Result (List JobView) Answer
+joined jobs rest = mapped (λ others. jobs ++ others) rest
 
 -- what is due of the numbers from one on
 abbrev due_from : Contents → List NodeInfo → List JobView → List ℕ → Result (List JobView) Answer

@@ -1,8 +1,8 @@
 use Rattle.std.proofs.Common.{◌≡◌, take, drop, map}
 use Rattle.std.specs.Prelude.{IsTrue}
-use Rattle.tree_index.proofs.InTurn.{joined}
 use Rattle.one_port.specs.NodeJobs.{jobs_in, nodes_at}
 use Rattle.one_port.specs.PortsWanted.{names_of}
+use Rattle.one_port.proofs.NodeJob.{joined}
 use Rattle.one_port.proofs.node_job.read_jobs.Given as goal
 
 abbrev pub invariant-loop-number : goal.invariant-loop-number
