@@ -13,7 +13,7 @@ use Rattle.pkg_record.specs.declared.answer.Record.TheVariants.{New, Old}
 use Rattle.pkg_record.specs.declared.fault.RecordError.{RecordError}
 use Rattle.pkg_record.specs.Reading.{record_of}
 use Rattle.pkg_record.specs.Stored.{own_record}
-use Rattle.pkg_store.specs.Loaded.{LoadedView, files_of}
+use Rattle.pkg_store.specs.Loaded.{LoadedView, files_of, AreApart}
 use Rattle.pkg_store.specs.Loading.{too_many_bytes}
 use Rattle.pkg_store.specs.declared.fault.StoreError.{StoreError}
 use Rattle.pkg_store.specs.declared.found.Found.{Found}
@@ -89,5 +89,8 @@ pub record MayRead (found : Found) (files : List (List ℕ)) : Type 0 where
   pub packages : IsAscending (files_of found.packages ++ files)
   pub old_files : IsAscending (found.old_files ++ files)
   pub damaged : IsAscending (found.damaged ++ files)
+  pub packages_old : AreApart (files_of found.packages) found.old_files
+  pub packages_damaged : AreApart (files_of found.packages) found.damaged
+  pub old_damaged : AreApart found.old_files found.damaged
   pub few : length found.packages + (length found.old_files + (length found.damaged + length files))
       ≤ most StoreNames

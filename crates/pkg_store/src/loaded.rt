@@ -5,9 +5,9 @@ use std::marker::Model;
 
 /// What a store was read as: its packages, and the files that are to go unread.
 ///
-/// Contracts see the record of its fields. Of each it holds that the packages stand in the byte order of the names of their
-/// files, so no two have one name; that the names of the other files ascend too; and that it speaks of no more files than a store
-/// may have.
+/// Contracts see the record of its fields. Of each it holds that the packages stand in the byte order of the names
+/// of their files, so no two have one name; that the names of the other files ascend too; that no file is in two of
+/// the lists; and that these have no more files than a store may have.
 #[derive(Debug, Drop)]
 pub struct Loaded {
     /// The packages, in the order of their files' names.
