@@ -1,5 +1,5 @@
 -- Two lists compared place by place.
-use Rattle.std.proofs.Common.{◌≡◌, ℕ, ◌+◌, ◌<◌, ◌≤◌, Bool, true, false, List, [], ◌∷◌, length, get_or, drop, arith, refl, ap, ap₂, sym, ◌∙◌}
+use Rattle.std.proofs.Common.{◌≡◌, ℕ, suc, ◌+◌, ◌<◌, ◌≤◌, Bool, true, false, List, [], ◌∷◌, length, get_or, drop, refl, ap, ap₂, sym, ◌∙◌}
 use Rattle.std.specs.Prelude.{◌&&◌}
 use Rattle.std.specs.Cmp.Lexicographic.{pointwise}
 use Rattle.std.proofs.lemmas.Bool.{and_right}
@@ -11,7 +11,7 @@ module _ {A B : Type 0} (E : A → B → Bool) where
   lengths_differ [] [] h = absurd (h refl)
   lengths_differ [] (y ∷ ys) h = refl
   lengths_differ (x ∷ xs) [] h = refl
-  lengths_differ (x ∷ xs) (y ∷ ys) h = and_right (E x y) (pointwise E xs ys) (lengths_differ xs ys (λ e. h (ap (λ n. n + 1) e)))
+  lengths_differ (x ∷ xs) (y ∷ ys) h = and_right (E x y) (pointwise E xs ys) (lengths_differ xs ys (λ e. h (ap suc e)))
 
   here : (xs : List A) (ys : List B) (i : ℕ) (x : A) (y : B) → i < length xs → i < length ys → x ≡ get_or xs i x → y ≡ get_or ys i y
       → pointwise E (drop i xs) (drop i ys) ≡ (E x y && pointwise E (drop (i + 1) xs) (drop (i + 1) ys))

@@ -2,7 +2,7 @@
 use Rattle.std.proofs.Common.{◌≡◌, ℕ, ◌+◌, ◌<◌, Bool, true, false, List, [], ◌∷◌, ◌++◌, length, get_or, take, ap, sym, ◌∙◌, cond}
 use Rattle.std.specs.Prelude.{Option, Some, None, unwrap_or}
 use Rattle.std.specs.Option.{option_map}
-use Rattle.std.specs.List.{filter_map, cons_option, fold}
+use Rattle.std.specs.List.{filter_map, cons_option}
 use Rattle.std.specs.FinMap as files
 use Rattle.std.proofs.lemmas.List.{take_more}
 use Rattle.std.proofs.lemmas.List.Elements.{filter_map-append}
@@ -58,3 +58,10 @@ pub stale_more : (reasons : Reasons) (items : List (List ℕ)) (i : ℕ) (found 
 stale_more reasons items i found before after l is e step =
     step ∙ ap (λ r. before ++ cons_option (stale_of (get_or items i []) r) []) is ∙ ap (λ xs. xs ++ cons_option (stale_at reasons (get_or items i [])) []) e
     ∙ sym (filter_map-append (stale_at reasons) (take i items) (get_or items i [] ∷ [])) ∙ ap (filter_map (stale_at reasons)) (sym (take_more items i [] l))
+
+-- one more of what a list gives
+pub given_more : {X Y : Type 0} (f : X → Option Y) (xs : List X) (i : ℕ) (x : X) (found : Option Y) (before after : List Y) → i < length xs → x ≡ get_or xs i x → found ≡ f x
+    → before ≡ filter_map f (take i xs) → after ≡ before ++ cons_option found [] → after ≡ filter_map f (take (i + 1) xs)
+given_more f xs i x found before after l is e so_far step =
+    step ∙ ap (λ o. before ++ cons_option o []) (e ∙ ap f is) ∙ ap (λ ys. ys ++ cons_option (f (get_or xs i x)) []) so_far
+    ∙ sym (filter_map-append f (take i xs) (get_or xs i x ∷ [])) ∙ ap (filter_map f) (sym (take_more xs i x l))

@@ -1,12 +1,14 @@
 -- Marks at numbers.
 use Rattle.std.proofs.Common.{◌≡◌, ℕ, ◌+◌, ◌<◌, ◌≤◌, Bool, true, false, List, [], ◌∷◌, ◌++◌, length, get_or, set, take, replicate, arith, refl, ap, sym, subst, ◌∙◌, inl, inr, ◌⊎◌}
-use Rattle.std.specs.Prelude.{◌||◌, ◌==◌}
-use Rattle.std.proofs.lemmas.Bool.{eq-eqb, ne_eqb, cases_eq}
+use Rattle.std.specs.Prelude.{◌||◌, ◌==◌, filter}
+use Rattle.std.specs.List.{All, range_with_len}
+use Rattle.std.proofs.lemmas.Bool.{eq-eqb, ne_eqb, cases_eq, and_parts}
 use Rattle.std.proofs.lemmas.List.{get_or-set_same, get_or-set_other, get_or-replicate, length-replicate, take_more}
 use Rattle.bulk_model.specs.Flags.{flag}
 use Rattle.dep_graph.specs.Graphs.{has}
-use Rattle.dep_graph.proofs.Members.{has-append}
+use Rattle.dep_graph.proofs.Members.{has-append, all_from_has, below-range, has-filter, filter_agree_below}
 use Rattle.stale_check.specs.Recording.{AreFlags}
+use Rattle.stale_check.specs.Stale.{flagged}
 
 or_none : (b : Bool) → b ≡ (b || false)
 or_none true = refl
@@ -53,3 +55,14 @@ one_flagged count i numbers number before after l is size grew so_far = record {
       ∙ sym (has-append (take i numbers) (number ∷ []) n)
       ∙ ap (λ ns. has ns n) (sym whole);
 }
+
+-- the marked numbers are those that were to be marked
+pub flagged_are : (count : ℕ) (numbers : List ℕ) (flags : List Bool) (found : List ℕ) → AreFlags count numbers flags → found ≡ flagged count flags
+    → found ≡ filter (has numbers) (range_with_len 0 count)
+flagged_are count numbers flags found are e = e ∙ filter_agree_below (flag flags) (has numbers) count are.marked
+
+pub flagged_within : (count : ℕ) (flags : List Bool) (found : List ℕ) → found ≡ flagged count flags → All (λ n. n < count) found
+flagged_within count flags found e =
+    subst (λ ns. All (λ n. n < count) ns) (sym e)
+    (all_from_has (λ n. n < count) (flagged count flags)
+    (λ n h. below-range count n (and_parts (flag flags n) (has (range_with_len 0 count) n) (sym (has-filter (flag flags) (range_with_len 0 count) n) ∙ h)).1))

@@ -1,5 +1,5 @@
 -- The places of the first of some with each name.
-use Rattle.std.proofs.Common.{◌≡◌, ℕ, ◌+◌, ◌<◌, ◌≤◌, Bool, true, false, List, [], ◌∷◌, ◌++◌, length, take, get_or, arith, ◌∙◌, ap, refl, sym, subst, cond, nat_lt, eqb}
+use Rattle.std.proofs.Common.{◌≡◌, ℕ, ◌+◌, ◌<◌, ◌≤◌, Bool, List, [], ◌∷◌, ◌++◌, length, take, get_or, arith, ◌∙◌, ap, sym, cond, nat_lt, eqb}
 use Rattle.std.specs.Prelude.{Option, Some, None, IfSome, position, bytes_eq}
 use Rattle.std.specs.Option.{option_or}
 use Rattle.std.specs.List.{position_or_len}
@@ -46,7 +46,7 @@ module _ {X : Type 0} (key : X → List ℕ) where
       → (n < length xs) × (name ≡ key (get_or xs n d))
   keyed_is xs numbers d all name n e =
       let p = position-Some (λ x. bytes_eq name (key x)) xs n d (sym (all name) ∙ e) in
-      (p.0, (bytes_eq-Decides name (key (get_or xs n d))).0 p.1.0)
+      (p.0, (bytes_eq-Decides name (key (get_or xs n d))).0 p.1)
 
   pub keyed_within : (xs : List X) (numbers : Numbers) (d : X) → AreKeyed key xs numbers → (name : List ℕ) (found : Option ℕ) → found ≡ map.get numbers name
       → IfSome found (λ n. n < length xs)

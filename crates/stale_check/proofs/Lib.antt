@@ -8,3 +8,5 @@ pub mod Flagging
 pub mod Comparing
 pub mod Prefixes
 pub mod Filing
+pub mod Marking
+pub mod Reasons

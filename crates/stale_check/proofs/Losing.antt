@@ -1,10 +1,10 @@
 -- What the lists of dependents lead to from what goes by itself is what passes take away.
 use Rattle.std.proofs.Common.{◌≡◌, ℕ, ◌<◌, Bool, true, false, not, List, [], length, get_or, map, arith, refl, ap, sym, subst, ◌∙◌, inl, inr}
-use Rattle.std.specs.Prelude.{Option, Some, None, ◌||◌, nat_lt, is_some, bytes_eq, Contains}
+use Rattle.std.specs.Prelude.{Option, None, ◌||◌, nat_lt, is_some, bytes_eq, Contains}
 use Rattle.std.specs.List.{list_any, All}
 use Rattle.std.specs.Cmp.Lexicographic.{bytes_decides}
 use Rattle.std.proofs.lemmas.Bool.{true≢false, lt-ltb, ltb-true, cases_lt, and_parts, and_from, or_parts, or_cases, not-true, not-false, not_from_false, not_from_true, false_from_ne_true}
-use Rattle.std.proofs.lemmas.List.{get_or_default, get_or_past, get_or-map, length-map}
+use Rattle.std.proofs.lemmas.List.{get_or_default, get_or_past, get_or-map}
 use Rattle.bulk_base.proofs.Members.{Member, any_member, member_any, all_passes}
 use Rattle.bulk_model.specs.Among.{is_recorded_as}
 use Rattle.bulk_model.specs.Sound.{has_all}

@@ -1,5 +1,5 @@
 -- What one recorded dependency, and one package, add to the lists of dependents.
-use Rattle.std.proofs.Common.{◌≡◌, ℕ, ◌+◌, ◌<◌, ◌^◌, Bool, true, false, List, [], ◌∷◌, ◌++◌, length, get_or, set, take, map, replicate, arith, refl, ap, sym, subst, ◌∙◌, cond, inl, inr, ◌⊎◌}
+use Rattle.std.proofs.Common.{◌≡◌, ℕ, ◌+◌, ◌<◌, ◌^◌, Bool, true, false, List, [], ◌∷◌, ◌++◌, length, get_or, set, take, replicate, arith, refl, ap, sym, subst, ◌∙◌, cond, inl, inr, ◌⊎◌}
 use Rattle.std.specs.Prelude.{Option, Some, None, ◌&&◌, ◌||◌, ◌==◌, nat_lt, is_some}
 use Rattle.std.specs.Option.{option_map_or}
 use Rattle.std.specs.List.{list_all, list_any, All}
@@ -15,8 +15,8 @@ use Rattle.bulk_model.specs.declared.depend.DepKind.TheVariants.{Pkg}
 use Rattle.bulk_model.specs.declared.depend.Recorded.{Recorded}
 use Rattle.bulk_model.specs.declared.plan.Edge.{Edge}
 use Rattle.bulk_model.specs.declared.reason.Reason.{Reason}
-use Rattle.dep_graph.specs.Graphs.{has, targets, edges_at, depends_at, IsWithin, IsGraph}
-use Rattle.dep_graph.proofs.Members.{has-append, all_has, all_from_has}
+use Rattle.dep_graph.specs.Graphs.{has, targets, edges_at, depends_at, IsGraph}
+use Rattle.dep_graph.proofs.Members.{has-append, all_from_has}
 use Rattle.stale_check.specs.Placing.{member_at, no_member}
 use Rattle.stale_check.specs.Recording.{IsHolder, mean, Noted, lacks, AreRead}
 
@@ -134,7 +134,7 @@ module _ (members : List PackageView) where
   pub none_read : (reasons : List (Option Reason)) (dependents : List (List Edge)) (lost : List ℕ) → dependents ≡ replicate (length members) [] → lost ≡ [] → AreRead members reasons 0 dependents lost
   none_read reasons dependents lost e f = record {
     size = ap length e ∙ length-replicate (length members) [];
-    lists = λ h n l. ap (λ xs. has (depends_at xs h) n) e ∙ ap (λ xs. has xs n) (get_or-replicate (length members) h [] [] l)
+    lists = λ h n l. ap (λ xs. has (depends_at xs h) n) e ∙ ap (λ (edges : List Edge). has (targets edges) n) (get_or-replicate (length members) h [] [] l)
         ∙ none_below (nat_lt n 0) (mean members h (member_at members n).depends) (le-ltb n 0 (omega arith));
     first = λ n. ap (λ xs. has xs n) f ∙ none_below (nat_lt n 0) (is_some (get_or reasons n None) || lacks members (member_at members n)) (le-ltb n 0 (omega arith));
   }

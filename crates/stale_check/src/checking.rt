@@ -1,6 +1,6 @@
 // The files of a store that go.
 ghost use Rattle.std.specs.Prelude.{◌≡◌, ◌<◌, ◌^◌, length, IfOk};
-ghost use Rattle.std.specs.List.{AllByRecursion};
+ghost use Rattle.std.specs.List.{All};
 ghost use Rattle.stale_check.specs.Stale as gone;
 
 use crate::files::stale_files;
@@ -85,7 +85,7 @@ fn flagged(alloc: Global, count: usize, flags: &Flags) -> Result<Numbers, NoMemo
 /// O(log n) comparisons for each of n nodes and packages.
 pub fn held(alloc: Global, index: &Index, loaded: &Loaded) -> Result<Numbers, NoMemory>
     ensures held { IfOk result (λ numbers. numbers ≡ gone.held index.now loaded.now) }
-    ensures within { IfOk result (AllByRecursion (λ n. n < length index.now.nodes)) }
+    ensures within { IfOk result (All (λ n. n < length index.now.nodes)) }
 {
     let found = package_numbers(alloc, index, loaded)?;
     let count = index.nodes.len();
