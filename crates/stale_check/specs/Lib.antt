@@ -1,5 +1,6 @@
 pub mod Fresh
 pub mod Own
+pub mod Current
 pub mod Stale
 pub mod Placing
 pub mod Recording

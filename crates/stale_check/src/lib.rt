@@ -14,4 +14,4 @@ mod own;
 mod reading;
 
 pub use checking::{ask_for_all, held, stale};
-pub use law::{fresh_is_closed, fresh_is_greatest, greatest_is_fresh};
+pub use law::{fresh_is_closed, fresh_is_greatest, greatest_is_fresh, no_reason_is_current};
