@@ -3,4 +3,5 @@ pub mod Own
 pub mod Current
 pub mod Stale
 pub mod Placing
+pub mod Lost
 pub mod Recording
