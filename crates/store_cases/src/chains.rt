@@ -2,12 +2,14 @@
 use crate::indexes::index_of_files;
 use crate::records::push_record;
 use crate::stale_cases::{push_stale, stale_of};
+use crate::stores::loaded_of_items;
 use bulk_base::{Bytes, FileItem, Files, Path, Sequence};
 use bulk_model::{Digest, MaybeDigests, Recipes, Stales};
 use case_text::{CaseError, number_of, push_number, push_str, text_of};
-use outside::{Item, Items, MemStore};
-use pkg_store::load_all;
+use outside::{Item, Items};
+use pkg_store::Loaded;
 use std::alloc::{AllocError, Global};
+use tree_index::Index;
 
 fn push_file(alloc: Global, files: &mut Files, path: &str, text: &str) -> Result<(), CaseError> {
     let path = Path::from_bytes(alloc, path.as_bytes())?;
@@ -52,19 +54,28 @@ fn spec_of(alloc: Global, n: u64) -> Result<String, AllocError> {
     format!(in alloc; "p{n:03}-1.0 a/p{n:03} a run,a/p{before:03},p{before:03}-1.0")
 }
 
+fn chain_item(alloc: Global, before: &[Item], n: u64) -> Result<Item, CaseError> {
+    let mut record = Vec::new(alloc);
+    push_record(alloc, before, spec_of(alloc, n)?.as_str(), &mut record)?;
+    let name = text_of(alloc, format!(in alloc; "p{n:03}-1.0.pkg")?.as_str())?;
+    let bytes = Bytes::from_vec(record);
+    Ok(Item { name, bytes })
+}
+
+/// The last of some files, alone.
+fn last_of(items: &Items) -> &[Item] {
+    match items.as_slice().last_chunk::<1>() {
+        Some(one) => one.as_slice(),
+        None => &[],
+    }
+}
+
 /// The packages of such a tree, with version 1.0 each.
 fn chain_store(alloc: Global, count: u64) -> Result<Items, CaseError> {
     let mut items: Items = Sequence::new(alloc);
     for n in 0..count {
-        let mut record = Vec::new(alloc);
-        let last = items
-            .as_slice()
-            .last_chunk::<1>()
-            .map_or(&[] as &[Item], |one| one.as_slice());
-        push_record(alloc, last, spec_of(alloc, n)?.as_str(), &mut record)?;
-        let name = text_of(alloc, format!(in alloc; "p{n:03}-1.0.pkg")?.as_str())?;
-        let bytes = Bytes::from_vec(record);
-        items.push(Item { name, bytes })?;
+        let item = chain_item(alloc, last_of(&items), n)?;
+        items.push(item)?;
     }
     Ok(items)
 }
@@ -89,6 +100,28 @@ fn push_ends(alloc: Global, gone: &Stales, out: &mut Vec<u8>) -> Result<(), Allo
     Ok(())
 }
 
+fn chain_loaded(alloc: Global, count: u64) -> Result<Loaded, CaseError> {
+    loaded_of_items(alloc, chain_store(alloc, count)?)
+}
+
+fn push_chain(
+    alloc: Global,
+    index: &Index,
+    loaded: &Loaded,
+    recipes: &Recipes,
+    out: &mut Vec<u8>,
+) -> Result<(), CaseError> {
+    let gone = stale_of(alloc, index, loaded, &[], recipes)?;
+    Ok(push_ends(alloc, &gone, out)?)
+}
+
+/// What goes of a chain of packages over an index.
+fn push_over(alloc: Global, index: &Index, count: u64, out: &mut Vec<u8>) -> Result<(), CaseError> {
+    let recipes = recipes_for(alloc, count)?;
+    let loaded = chain_loaded(alloc, count)?;
+    push_chain(alloc, index, &loaded, &recipes, out)
+}
+
 /// What goes of a chain of packages over a tree whose first port has this version.
 pub(crate) fn answer_chain(
     alloc: Global,
@@ -98,11 +131,5 @@ pub(crate) fn answer_chain(
 ) -> Result<(), CaseError> {
     let count = number_of(count)?;
     let index = index_of_files(alloc, chain_tree(alloc, count, version)?)?;
-    let mut store = MemStore::new(alloc, chain_store(alloc, count)?, Sequence::new(alloc))?;
-    let Ok(loaded) = load_all(alloc, &mut store) else {
-        return Err(CaseError::Unfit);
-    };
-    let recipes = recipes_for(alloc, count)?;
-    let gone = stale_of(alloc, &index, &loaded, &[], &recipes)?;
-    Ok(push_ends(alloc, &gone, out)?)
+    push_over(alloc, &index, count, out)
 }

@@ -8,13 +8,17 @@ use outside::{Item, Items, MemStore, Outer, Store};
 use pkg_store::{Loaded, StoreError, load_all};
 use std::alloc::{AllocError, Global};
 
+fn empty_item(alloc: Global, n: u64) -> Result<Item, CaseError> {
+    let name = text_of(alloc, format!(in alloc; "n{n:06}.pkg")?.as_str())?;
+    let bytes = Bytes::new(alloc);
+    Ok(Item { name, bytes })
+}
+
 /// So many package files without a byte.
 fn many_items(alloc: Global, count: u64) -> Result<Items, CaseError> {
     let mut items = Sequence::new(alloc);
     for n in 0..count {
-        let name = text_of(alloc, format!(in alloc; "n{n:06}.pkg")?.as_str())?;
-        let bytes = Bytes::new(alloc);
-        items.push(Item { name, bytes })?;
+        items.push(empty_item(alloc, n)?)?;
     }
     Ok(items)
 }

@@ -152,6 +152,35 @@ fn push_new(out: &mut Vec<u8>, [name, node, recipe]: [&str; 3]) -> Result<(), Ca
     Ok(())
 }
 
+fn push_head(
+    is_new: bool,
+    [first, second, third]: [&str; 3],
+    out: &mut Vec<u8>,
+) -> Result<(), CaseError> {
+    if is_new {
+        return push_new(out, [first, second, third]);
+    }
+    push_line(out, &["poudriere-package 1"])?;
+    push_names(out, second, third)
+}
+
+fn push_words(
+    alloc: Global,
+    made: &[Item],
+    words: &[&str],
+    out: &mut Vec<u8>,
+) -> Result<(), CaseError> {
+    let [first, second, third, rest @ ..] = words else {
+        return Err(CaseError::Unfit);
+    };
+    let is_new = *first != "old";
+    push_head(is_new, [first, second, third], out)?;
+    push_options(alloc, out, rest)?;
+    push_depends(alloc, made, is_new, rest, out)?;
+    push_line(out, &["files 0"])?;
+    push_digest_line(alloc, out)
+}
+
 /// Puts the record that some words spell into an empty list: `NAME NODE RECIPE` of version 2, with the recipe's digit, or
 /// `old NAME NODE` of version 1; then the options, `+NAME` or `-NAME`, and the dependencies. It has no files.
 pub(crate) fn push_record(
@@ -161,18 +190,5 @@ pub(crate) fn push_record(
     out: &mut Vec<u8>,
 ) -> Result<(), CaseError> {
     let words: Vec<&str> = spec.split(' ').collect(alloc)?;
-    let is_new = !spec.starts_with("old ");
-    let [first, second, third, rest @ ..] = words.as_slice() else {
-        return Err(CaseError::Unfit);
-    };
-    if is_new {
-        push_new(out, [first, second, third])?;
-    } else {
-        push_line(out, &["poudriere-package 1"])?;
-        push_names(out, second, third)?;
-    }
-    push_options(alloc, out, rest)?;
-    push_depends(alloc, made, is_new, rest, out)?;
-    push_line(out, &["files 0"])?;
-    push_digest_line(alloc, out)
+    push_words(alloc, made, words.as_slice(), out)
 }

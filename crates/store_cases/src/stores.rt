@@ -46,13 +46,18 @@ pub(crate) fn store_of(alloc: Global, files: &str, fails: &str) -> Result<MemSto
     Ok(MemStore::new(alloc, items, fails_of(alloc, fails, "")?)?)
 }
 
-/// What a store that is read without a fault was read as.
-pub(crate) fn loaded_of(alloc: Global, files: &str) -> Result<Loaded, CaseError> {
-    let mut store = store_of(alloc, files, "")?;
+/// What a store of these files is read as.
+pub(crate) fn loaded_of_items(alloc: Global, items: Items) -> Result<Loaded, CaseError> {
+    let mut store = MemStore::new(alloc, items, Sequence::new(alloc))?;
     match load_all(alloc, &mut store) {
         Ok(loaded) => Ok(loaded),
         Err(_) => Err(CaseError::Unfit),
     }
+}
+
+/// What the store of a field's files is read as.
+pub(crate) fn loaded_of(alloc: Global, files: &str) -> Result<Loaded, CaseError> {
+    loaded_of_items(alloc, items_of(alloc, files)?)
 }
 
 /// Puts an error at the end.
