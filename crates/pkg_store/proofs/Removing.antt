@@ -1,7 +1,17 @@
 -- What the removal of names, one after another, changes.
-use Rattle.std.proofs.Common.{◌≡◌, ℕ, ◌+◌, ◌<◌, Bool, true, false, List, [], ◌∷◌, ◌++◌, length, take, get_or, refl, ap, sym, ◌∙◌, arith, cond, inl, inr}
-use Rattle.std.specs.Prelude.{Result, Ok, Err, MatchBool}
-use Rattle.std.specs.FinMap.{contains_key, remove}
+use Rattle.std.proofs.Common.{◌≡◌, ℕ, ◌+◌, ◌<◌, Bool, true, false, List, [], ◌∷◌, ◌++◌, length, take, get_or, refl, ap, sym, subst, ◌∙◌, arith, cond, inl, inr}
+use Rattle.std.specs.Prelude.{Result, Ok, Err, MatchBool, None, is_some, bytes_eq, Contains}
+use Rattle.std.specs.FinMap.{get, contains_key, remove, get-remove}
+use Rattle.std.specs.List.{AllByRecursion}
+use Rattle.std.specs.List.Sorted.{IsStrictlySortedBy}
+use Rattle.std.specs.Cmp.{eq_by_cmp_equiv}
+use Rattle.std.specs.Cmp.Lexicographic.{slice_cmp, nat_list_cmp_total}
+use Rattle.std.specs.Ordering.{nat_cmp, is_eq}
+use Rattle.std.specs.declared.cmp.Ordering.TheVariants.{Less}
+use Rattle.std.proofs.lemmas.Bool.{true≢false, false_from_ne_true}
+use Rattle.std.proofs.lemmas.Map.Text.{is_eq-slice_cmp}
+use Rattle.std.proofs.lemmas.Slice.Eq.{bytes_eq-Decides}
+use Rattle.bulk_base.proofs.Members.{contains_none, contains_cases, contains_here, contains_more}
 use Rattle.std.proofs.lemmas.List.{append_assoc, append-nil, take_more}
 use Rattle.outside.specs.Contents.{Contents}
 use Rattle.outside.specs.Changes.{replayed, changed, TookEffect, IsUnchanged, Made, Removed}
@@ -10,7 +20,7 @@ use Rattle.outside.specs.declared.change.Change.TheVariants.{Remove}
 use Rattle.outside.specs.declared.outer.Outer.{Outer}
 use Rattle.outside.specs.declared.outer.Outer.TheVariants.{Fault, NoMemory}
 use Rattle.outside.proofs.Journals.{replayed-append}
-use Rattle.pkg_store.specs.Changing.{removals_in, WereRemoved, Deleted}
+use Rattle.pkg_store.specs.Changing.{removals_in, WereRemoved, Deleted, EachIsRemoved}
 
 -- the change that one removal makes, if it makes one
 abbrev one : Contents → List ℕ → List Change
@@ -100,3 +110,33 @@ module _ (names : List (List ℕ)) (i : ℕ) (name : List ℕ) (first before now
 
 pub none_removed : (names : List (List ℕ)) (content : Contents) (journal : List Change) → WereRemoved names 0 content content journal journal
 none_removed names content journal = record { content = refl; journal = sym (append-nil journal) }
+
+-- ---- where all are there
+
+behind : (n : List ℕ) (names : List (List ℕ)) (m : List ℕ) → AllByRecursion (λ k. slice_cmp nat_cmp n k ≡ Less) names → Contains names m → slice_cmp nat_cmp n m ≡ Less
+behind n [] m h c = absurd (contains_none m c)
+behind n (k ∷ names) m h c = elim (contains_cases k names m c) [
+  | inl e ↦ subst (λ x. slice_cmp nat_cmp n x ≡ Less) e h.0
+  | inr more ↦ behind n names m h.1 more
+]
+
+not_same : (n m : List ℕ) → slice_cmp nat_cmp n m ≡ Less → m ≡ n → ⊥
+not_same n m l e =
+    true≢false (sym ((eq_by_cmp_equiv nat_list_cmp_total).refl n) ∙ ap is_eq (ap (slice_cmp nat_cmp n) (sym e) ∙ l))
+
+still_there : (content : Contents) (n m : List ℕ) → slice_cmp nat_cmp n m ≡ Less → contains_key content m ≡ true → contains_key (remove content n) m ≡ true
+still_there content n m l h =
+    ap is_some
+    (get-remove nat_list_cmp_total content n m
+    ∙ ap (λ b. cond b None (get content m))
+    (is_eq-slice_cmp m n ∙ false_from_ne_true (bytes_eq m n) (λ t. not_same n m l ((bytes_eq-Decides m n).0 t))))
+    ∙ h
+
+pub each_is_removed : EachIsRemoved
+unfolding IsStrictlySortedBy
+each_is_removed content [] ascends there = refl
+each_is_removed content (n ∷ names) ascends there =
+    ap (λ b. cond b (Remove n ∷ removals_in (remove content n) names) (removals_in content names)) (there n (contains_here n names))
+    ∙ ap (λ changes. Remove n ∷ changes)
+    (each_is_removed (remove content n) names ascends.1
+    (λ m c. still_there content n m (behind n names m ascends.0 c) (there m (contains_more n names m c))))

@@ -1,7 +1,7 @@
 -- What removals leave of a store.
-use Rattle.std.specs.Prelude.{◌≡◌, ◌≤◌, ◌<◌, ℕ, List, [], ◌∷◌, ◌++◌, length, take, Result, Ok, Err, if◌then◌else◌}
+use Rattle.std.specs.Prelude.{◌≡◌, ◌≤◌, ◌<◌, ℕ, List, [], ◌∷◌, ◌++◌, length, take, map, true, Contains, Result, Ok, Err, if◌then◌else◌}
 use Rattle.std.specs.FinMap.{contains_key, remove}
-use Rattle.outside.specs.Contents.{Contents}
+use Rattle.outside.specs.Contents.{Contents, IsAscending}
 use Rattle.outside.specs.Changes.{replayed}
 use Rattle.outside.specs.declared.change.Change.{Change}
 use Rattle.outside.specs.declared.change.Change.TheVariants.{Remove}
@@ -38,3 +38,10 @@ abbrev pub Deleted : {X : Type 0} → List (List ℕ) → Contents → Contents 
 Deleted names before now told_before told_now result =
     (count : ℕ) × MayBeGone (length names) count result
     × WereRemoved names count before now told_before told_now
+
+-- where names ascend and all are there, each is removed
+abbrev pub EachIsRemoved : Type 0
+EachIsRemoved =
+    (content : Contents) (names : List (List ℕ)) → IsAscending names
+    → ((name : List ℕ) → Contains names name → contains_key content name ≡ true)
+    → removals_in content names ≡ map Remove names

@@ -4,10 +4,12 @@
 mod changing;
 mod fault;
 mod found;
+mod law;
 mod loaded;
 mod loading;
 
 pub use changing::{delete, save};
 pub use fault::StoreError;
+pub use law::each_is_removed;
 pub use loaded::Loaded;
 pub use loading::{load_all, package_names};

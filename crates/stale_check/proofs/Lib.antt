@@ -10,3 +10,4 @@ pub mod Prefixes
 pub mod Filing
 pub mod Marking
 pub mod Reasons
+pub mod Current

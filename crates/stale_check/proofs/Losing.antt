@@ -6,6 +6,7 @@ use Rattle.std.specs.Cmp.Lexicographic.{bytes_decides}
 use Rattle.std.proofs.lemmas.Bool.{true≢false, lt-ltb, ltb-true, cases_lt, and_parts, and_from, or_parts, or_cases, not-true, not-false, not_from_false, not_from_true, false_from_ne_true}
 use Rattle.std.proofs.lemmas.List.{get_or_default, get_or_past, get_or-map}
 use Rattle.bulk_base.proofs.Members.{Member, any_member, member_any, all_passes}
+use Rattle.bulk_model.specs.Flags.{flag}
 use Rattle.bulk_model.specs.Among.{is_recorded_as}
 use Rattle.bulk_model.specs.Sound.{has_all}
 use Rattle.bulk_model.specs.Views.{PackageView}
@@ -16,6 +17,7 @@ use Rattle.dep_graph.specs.Graphs.{has, depends_at}
 use Rattle.dep_graph.specs.Reached.{IsReach}
 use Rattle.dep_graph.proofs.Members.{all_has, all_from_has}
 use Rattle.stale_check.specs.Fresh.{IsGreatest}
+use Rattle.stale_check.specs.Lost.{AreLost}
 use Rattle.stale_check.specs.Placing.{member_at, no_member, AreNamed}
 use Rattle.stale_check.specs.Recording.{mean, lacks, AreRead}
 use Rattle.stale_check.specs.Stale.{left, is_left}
@@ -173,3 +175,12 @@ module _ (members : List PackageView) (reasons : List (Option Reason)) (own : Pa
     -- the lost members are those that are not left
     pub lost_is : (n : ℕ) → n < length members → has after n ≡ not (is_left own members (member_at members n))
     lost_is n l = lost_case n (has after n) refl l
+
+    -- marks at what was lost are at all but what is left
+    pub are_lost : (flags : List Bool) → length flags ≡ length members → ((n : ℕ) → n < length members → flag flags n ≡ has after n) → AreLost own members flags
+    are_lost flags size marks = record {
+      size = size;
+      marked = λ n l. marks n l ∙ lost_is n l;
+      kept = λ n l u. left_has n l (not-false (is_left own members (member_at members n)) (sym (marks n l ∙ lost_is n l) ∙ u));
+      gone = λ n l t c. true≢false (sym (has_left (member_at members n) c) ∙ not-true (is_left own members (member_at members n)) (sym (marks n l ∙ lost_is n l) ∙ t));
+    }

@@ -1,9 +1,12 @@
 // The files of a store that go.
 ghost use Rattle.std.specs.Prelude.{◌≡◌, ◌<◌, ◌^◌, length, IfOk};
 ghost use Rattle.std.specs.List.{All};
+ghost use Rattle.stale_check.specs.Lost.{AreLost};
+ghost use Rattle.stale_check.specs.Own.{own};
 ghost use Rattle.stale_check.specs.Stale as gone;
 
-use crate::files::stale_files;
+use crate::files::gone_by;
+use crate::gone::Gone;
 use crate::lost::flag_numbers;
 use crate::numbering::{number_nodes, number_of_package};
 use crate::own::own_reasons;
@@ -12,6 +15,25 @@ use bulk_model::{Flags, Numbers, Reason, Recipes, Stale, Stales};
 use pkg_store::Loaded;
 use std::alloc::Global;
 use tree_index::Index;
+
+/// What goes of a store, with marks at the packages that go: `stale`, and which packages are left, the greatest set of them that
+/// has all that it records and no own reason. It costs what `stale` does.
+pub fn find_gone(
+    alloc: Global,
+    index: &Index,
+    loaded: &Loaded,
+    asked: &[u32],
+    recipes: &Recipes,
+) -> Result<Gone, NoMemory>
+    requires { length recipes.now.digests ≡ length index.now.nodes }
+    ensures files { IfOk result (λ found. found.files
+        ≡ gone.stale index.now loaded.now asked.now recipes.now) }
+    ensures lost { IfOk result (λ found.
+        AreLost (own index.now asked.now recipes.now) loaded.now.packages found.lost) }
+{
+    let reasons = own_reasons(alloc, index, asked, recipes, loaded.packages.as_slice())?;
+    gone_by(alloc, loaded, reasons.as_slice())
+}
 
 /// The files of a store that go, by name, each with its reason, the first that holds (docs/FORMATS.md, "Stale packages"): damaged;
 /// old-record; asked, where the number of the package's node is in `asked`; no-port; ignored; new-name; new-options; new-depends,
@@ -33,8 +55,8 @@ pub fn stale(
     ensures { IfOk result (λ list. list
         ≡ gone.stale index.now loaded.now asked.now recipes.now) }
 {
-    let own = own_reasons(alloc, index, asked, recipes, loaded.packages.as_slice())?;
-    stale_files(alloc, loaded, own.as_slice())
+    let found = find_gone(alloc, index, loaded, asked, recipes)?;
+    Ok(found.files)
 }
 
 /// Files that go because all were asked for, as with `-c`, where nothing is read. In the order given. NoMemory for want of memory

@@ -2,10 +2,11 @@
 ghost use Rattle.std.specs.Prelude.{◌≡◌, ◌<◌, ◌≤◌, ◌^◌, ℕ, length, map, Option, IfOk, OnOk};
 ghost use Rattle.bulk_model.specs.Views.{PackageView};
 ghost use Rattle.bulk_model.specs.declared.reason.Reason.{Reason as Cause};
-ghost use Rattle.stale_check.specs.Placing.{member_at};
+ghost use Rattle.stale_check.specs.Lost.{AreLost};
 ghost use Rattle.stale_check.specs.Recording.{Goes};
 ghost use Rattle.stale_check.specs.Stale as stale;
 
+use crate::gone::Gone;
 use crate::lost::lost_packages;
 use crate::reading::name;
 use bulk_base::{NoMemory, Sequence, Text, TextMap};
@@ -71,17 +72,16 @@ fn in_order(alloc: Global, reasons: &TextMap<Reason>) -> Result<Stales, NoMemory
 fn reasons_of(
     alloc: Global,
     loaded: &Loaded,
+    lost: &Flags,
     own: &[Option<Reason>],
 ) -> Result<TextMap<Reason>, NoMemory>
     requires { length own.now ≡ length loaded.now.packages }
     ensures { IfOk result (λ reasons. (test : PackageView → Option Cause)
-        → own.now ≡ map test loaded.now.packages
+        → own.now ≡ map test loaded.now.packages → AreLost test loaded.now.packages lost.now
         → reasons ≡ stale.reasons_by test loaded.now) }
 {
-    let members = loaded.packages.as_slice();
-    let lost = lost_packages(alloc, members, own)?;
     let mut reasons = TextMap::new(alloc);
-    add_packages(alloc, members, &lost, own, &mut reasons)?;
+    add_packages(alloc, loaded.packages.as_slice(), lost, own, &mut reasons)?;
     add_files(
         alloc,
         Reason::OldRecord,
@@ -97,17 +97,22 @@ fn reasons_of(
     Ok(reasons)
 }
 
-/// The files of a store that go, by name, each with its reason, by the own reasons of its packages.
-pub(crate) fn stale_files(
+/// What goes of a store, by the own reasons of its packages.
+pub(crate) fn gone_by(
     alloc: Global,
     loaded: &Loaded,
     own: &[Option<Reason>],
-) -> Result<Stales, NoMemory>
+) -> Result<Gone, NoMemory>
     requires { length own.now ≡ length loaded.now.packages }
-    ensures { IfOk result (λ list. (test : PackageView → Option Cause)
+    ensures files { IfOk result (λ gone. (test : PackageView → Option Cause)
         → own.now ≡ map test loaded.now.packages
-        → list ≡ stale.stale_by test loaded.now) }
+        → gone.files ≡ stale.stale_by test loaded.now) }
+    ensures lost { IfOk result (λ gone. (test : PackageView → Option Cause)
+        → own.now ≡ map test loaded.now.packages
+        → AreLost test loaded.now.packages gone.lost) }
 {
-    let reasons = reasons_of(alloc, loaded, own)?;
-    in_order(alloc, &reasons)
+    let lost = lost_packages(alloc, loaded.packages.as_slice(), own)?;
+    let reasons = reasons_of(alloc, loaded, &lost, own)?;
+    let files = in_order(alloc, &reasons)?;
+    Ok(Gone { files, lost })
 }

@@ -1,4 +1,5 @@
-// The laws of what passes leave, each the contract of a function that does nothing.
+// The laws of what passes leave and of own reasons, each the contract of a function that does nothing.
+ghost use Rattle.stale_check.specs.Current.{NoReasonIsCurrent};
 ghost use Rattle.stale_check.specs.Fresh.{FreshIsClosed, FreshIsGreatest, GreatestIsFresh};
 
 /// What passes leave of packages has with each all that it records, by any test of own reasons.
@@ -14,4 +15,10 @@ pub fn fresh_is_greatest()
 /// A test that keeps the greatest closed set of packages without own reasons keeps just what passes leave.
 pub fn greatest_is_fresh()
     ensures { GreatestIsFresh }
+{}
+
+/// A package without an own reason has a node of the tree, which is neither asked for nor ignored, and its name, its
+/// options, its dependencies and its recipe.
+pub fn no_reason_is_current()
+    ensures { NoReasonIsCurrent }
 {}

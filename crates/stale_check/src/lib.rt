@@ -4,6 +4,7 @@
 mod changes;
 mod checking;
 mod files;
+mod gone;
 mod holder;
 mod holders;
 mod law;
@@ -13,5 +14,6 @@ mod numbering;
 mod own;
 mod reading;
 
-pub use checking::{ask_for_all, held, stale};
-pub use law::{fresh_is_closed, fresh_is_greatest, greatest_is_fresh};
+pub use checking::{ask_for_all, find_gone, held, stale};
+pub use gone::Gone;
+pub use law::{fresh_is_closed, fresh_is_greatest, greatest_is_fresh, no_reason_is_current};

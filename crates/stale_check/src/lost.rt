@@ -1,12 +1,12 @@
 // Which packages of a store are not left.
-ghost use Rattle.std.specs.Prelude.{◌≡◌, ◌<◌, ◌||◌, ◌==◌, ◌^◌, not, ℕ, length, map, Option, IfOk};
+ghost use Rattle.std.specs.Prelude.{◌≡◌, ◌<◌, ◌||◌, ◌==◌, ◌^◌, ℕ, length, map, Option, IfOk};
 ghost use Rattle.bulk_model.specs.Flags.{flag};
 ghost use Rattle.bulk_model.specs.Views.{PackageView};
 ghost use Rattle.bulk_model.specs.declared.reason.Reason.{Reason as Cause};
 ghost use Rattle.dep_graph.specs.Graphs.{has};
-ghost use Rattle.stale_check.specs.Placing.{AreNamed, member_at};
+ghost use Rattle.stale_check.specs.Lost.{AreLost};
+ghost use Rattle.stale_check.specs.Placing.{AreNamed};
 ghost use Rattle.stale_check.specs.Recording.{AreFlags};
-ghost use Rattle.stale_check.specs.Stale.{is_left};
 
 use crate::holders::{empty_lists, read_all};
 use crate::numbering::place_packages;
@@ -49,8 +49,7 @@ pub(crate) fn lost_packages(
     requires names { AreNamed members.now }
     requires reasons { length reasons.now ≡ length members.now }
     ensures { IfOk result (λ lost. (own : PackageView → Option Cause)
-        → reasons.now ≡ map own members.now → (n : ℕ) → n < length members.now
-        → flag lost n ≡ not (is_left own members.now (member_at members.now n))) }
+        → reasons.now ≡ map own members.now → AreLost own members.now lost) }
 {
     let places = place_packages(alloc, members)?;
     let mut dependents = empty_lists(alloc, members.len())?;

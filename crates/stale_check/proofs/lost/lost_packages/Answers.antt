@@ -5,7 +5,7 @@ use Rattle.bulk_model.specs.declared.plan.Edge.{Edge}
 use Rattle.dep_graph.specs.Graphs.{IsGraph, has}
 use Rattle.dep_graph.specs.Reached.{IsReach}
 use Rattle.stale_check.proofs.Noting.{read_graph, first_within}
-use Rattle.stale_check.proofs.Losing.{lost_is}
+use Rattle.stale_check.proofs.Losing.{are_lost}
 use Rattle.stale_check.proofs.lost.lost_packages.Goals as goal
 
 ok_same : {X E : Type 0} (a b : X) → (let r : Result X E = Ok a in r) ≡ Ok b → a ≡ b
@@ -30,7 +30,6 @@ returns c =
     subst (λ (lists : List (List Edge)). IsReach lists c.in_ok-first.first.items c.in_ok-lost.lost) graph
     (subst (λ (numbers : List ℕ). IsReach c.in_ok-graph.graph numbers c.in_ok-lost.lost) c.as_slice.ensures.value c.in_ok-lost.ensures.least_closed) in
     IfOk-weaker c.flag_numbers.result _ _
-    (λ flags h own e n l.
-    h.marked n l
-    ∙ ap (λ (numbers : List ℕ). has numbers n) c.as_slice-2.ensures
-    ∙ lost_is c.args.members.now c.args.reasons.now own c.requires.names e c.read_all.new.dependents.items c.in_ok-first.first.items c.in_ok-lost.lost c.in_ok-first.ensures reach n l) c.flag_numbers.ensures
+    (λ flags h own e.
+    are_lost c.args.members.now c.args.reasons.now own c.requires.names e c.read_all.new.dependents.items c.in_ok-first.first.items c.in_ok-lost.lost c.in_ok-first.ensures reach flags h.size
+    (λ n l. h.marked n l ∙ ap (λ (numbers : List ℕ). has numbers n) c.as_slice-2.ensures)) c.flag_numbers.ensures
