@@ -38,7 +38,8 @@ abbrev pub left : Outcomes → List ℕ → List ℕ
 left given numbers = filter (λ n. not (is_some (outcome_at given n))) numbers
 
 -- given outcomes are those of the results
-pub record AreOfResults (bakes : Bakes) (plan : PlanView) (kept : KeptPackages) (given : Outcomes) : Type 0 where
+pub record AreOfResults (bakes : Bakes) (plan : PlanView) (kept : KeptPackages)
+    (given : Outcomes) : Type 0 where
   pub each : (n : ℕ) (outcome : Outcome) → outcome_at given n ≡ Some outcome
       → status_at bakes plan kept n ≡ status_of_outcome outcome
 

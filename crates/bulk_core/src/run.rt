@@ -57,7 +57,8 @@ fn run_from<B: Baking>(
 
 /// Builds all nodes of a plan that can be built, one after another in the order of one builder, each with the packages that
 /// are installed for it, and answers what came of each node: where the baker tells, what the builds of the plan come to;
-/// else what follows from the outcomes in the answer. Told or not, each built package is one of its job.
+/// else what follows from the outcomes in the answer. Told or not, each built package is one of its job. What depends on a
+/// node that failed, is ignored or was skipped is skipped (poudriere-bulk(8)).
 ///
 /// Fault only where the baker's count of faults rose in this call, and every other answer leaves that count as it was.
 /// NoMemory for want of memory alone. Whatever is answered, only nodes that are neither kept nor ignored were begun, each
@@ -122,8 +123,8 @@ pub fn finish<B: Baking>(
     // what was built
     ensures left { IfOk result (λ results. AreLeft plan.now kept.now partial.outcomes
         results.statuses (left partial.outcomes (order plan.now kept.now results.statuses))) }
-    ensures baked { IfOk result (λ results. B.begun baker.new ≡ B.begun baker.old ++ names_at plan.now
-        (left partial.outcomes (order plan.now kept.now results.statuses))) }
+    ensures baked { IfOk result (λ results. B.begun baker.new ≡ B.begun baker.old
+        ++ names_at plan.now (left partial.outcomes (order plan.now kept.now results.statuses))) }
     // whatever is answered
     ensures begun { Began plan.now kept.now partial.outcomes
         (B.begun baker.old) (B.begun baker.new) }

@@ -27,7 +27,8 @@ fn is_built(outcome: &Outcome) -> bool
 /// Whether a node that has its outcome was built well.
 fn had(outcomes: &[Option<Outcome>], n: u32) -> Option<bool>
     requires { n < length outcomes.now }
-    ensures { result ≡ option_map_or (λ outcome. Some (is_made outcome)) (outcome_at outcomes.now n) None }
+    ensures { result
+        ≡ option_map_or (λ outcome. Some (is_made outcome)) (outcome_at outcomes.now n) None }
 {
     match &outcomes[n as usize] {
         Some(outcome) => Some(is_built(outcome)),
@@ -49,8 +50,8 @@ fn bake_node<B: Baking>(
     requires kept { length kept.now.packages ≡ length plan.now.jobs }
     requires collector { collector.old ≡ length plan.now.jobs }
     requires outcomes { length outcomes.now ≡ length plan.now.jobs }
-    ensures build { IfOk result (IsBuildOf B.Ways.tells B.Ways.runs plan.now.base (job_at plan.now n)
-        (packages_for plan.now kept.now outcomes.now n)) }
+    ensures build { IfOk result (IsBuildOf B.Ways.tells B.Ways.runs
+        plan.now.base (job_at plan.now n) (packages_for plan.now kept.now outcomes.now n)) }
     ensures collector { collector.new ≡ collector.old }
     ensures begun { OnOk result
         (B.begun baker.new ≡ B.begun baker.old ++ (job_at plan.now n).name ∷ []) }
@@ -123,7 +124,8 @@ pub(crate) fn build_left<B: Baking>(
     requires given { FitsPartial plan.now kept.now outcomes.old.items }
     ensures ended { OnOk result (IsEnded B.Ways.tells B.Ways.runs plan.now kept.now
         outcomes.old.items outcomes.new.items (B.begun baker.old) (B.begun baker.new)) }
-    ensures begun { Began plan.now kept.now outcomes.old.items (B.begun baker.old) (B.begun baker.new) }
+    ensures begun { Began plan.now kept.now outcomes.old.items
+        (B.begun baker.old) (B.begun baker.new) }
     ensures cause { HasCause (B.faults baker.old) (B.faults baker.new) result }
 {
     let _ = &plan.jobs;

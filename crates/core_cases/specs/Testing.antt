@@ -17,7 +17,8 @@ StandAlone edges ignored =
     (n : ℕ) → n < length edges → is_some (slice_index_or ignored n None) ≡ true → slice_index_or edges n [] ≡ []
 
 -- these are the parts of a plan
-pub record AreParts (jobs : List JobView) (edges : List (List Edge)) (ignored : List (Option (List ℕ))) (boosted : List Bool) : Type 0 where
+pub record AreParts (jobs : List JobView) (edges : List (List Edge))
+    (ignored : List (Option (List ℕ))) (boosted : List Bool) : Type 0 where
   pub graph : IsGraph edges
   pub jobs_size : length jobs ≡ length edges
   pub ignored_size : length ignored ≡ length edges

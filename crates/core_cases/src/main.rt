@@ -1,5 +1,5 @@
-//! Cases of the queue of a plan's nodes and of one builder: a line of standard input each, with fields between bars, and an answer
-//! a line.
+//! Cases of the queue of a plan's nodes and of one builder: a line of standard input each, with fields between bars, and an
+//! answer a line.
 #![tactic(auto)]
 
 mod alone;
