@@ -1,0 +1,4 @@
+pub mod Kind
+pub mod KindText
+pub mod AnswerLine
+pub mod Steps
