@@ -1,0 +1,4 @@
+pub mod JobParts
+pub mod PlanParts
+pub mod Fitting
+pub mod Apart
