@@ -111,7 +111,7 @@ starts_with-front : (w a b : List ℕ) → starts_with nat_eq (w ++ a) (w ++ b) 
 starts_with-front [] a b = refl
 starts_with-front (c ∷ w) a b = ap (λ t. t && starts_with nat_eq (w ++ a) (w ++ b)) (same_byte c) ∙ starts_with-front w a b
 
-order-front : (w a b : List ℕ) → order (w ++ a) (w ++ b) ≡ order a b
+pub order-front : (w a b : List ℕ) → order (w ++ a) (w ++ b) ≡ order a b
 order-front [] a b = refl
 order-front (c ∷ w) a b = ap (λ o. ordering_then o (order (w ++ a) (w ++ b))) (same_rank c) ∙ order-front w a b
 

@@ -1,5 +1,5 @@
 -- What holds of files while they are gathered, told or not.
-use Rattle.std.specs.Prelude.{◌≡◌, ℕ, ◌⊎◌, nat_le, List, [], ◌∷◌, ◌++◌, length, map, find, None, IsTrue}
+use Rattle.std.specs.Prelude.{◌≡◌, ℕ, ◌⊎◌, nat_le, ◌≤◌, List, [], ◌∷◌, ◌++◌, length, map, find, None, IsTrue}
 use Rattle.std.specs.List.{list_all}
 use Rattle.bulk_base.specs.declared.file.FileItem.{FileItem}
 use Rattle.outside.specs.Contents.{IsAscending, has_no_folder}
@@ -7,9 +7,10 @@ use Rattle.bulk_model.specs.Facts.{paths_of}
 use Rattle.dist_files.specs.declared.dist.Dist.{Dist}
 use Rattle.job_files.specs.Distfiles.{is_kept_for_dist}
 
--- a file at a path was added, or nothing
+-- a file at a path that is short enough to stand in a job was added, or nothing
 abbrev pub AddsAtMost : List ℕ → List FileItem → List FileItem → Type 0
-AddsAtMost path before after = (paths_of after ≡ paths_of before ++ path ∷ []) ⊎ (after ≡ before)
+AddsAtMost path before after =
+    ((paths_of after ≡ paths_of before ++ path ∷ []) × (length path ≤ 1019)) ⊎ (after ≡ before)
 
 -- a file at a path was added
 abbrev pub HasOneMore : List ℕ → List FileItem → List FileItem → Type 0

@@ -72,6 +72,7 @@ fn read_base_file<T: Tree>(
 /// NoMemory for want of memory alone. A file that is gone when it is read is left out.
 ///
 /// Each file is read once.
+#[tactic(auto, unfolding(crate::specs::BaseFiles::base_files))]
 pub fn read_base<T: Tree>(alloc: Global, tree: &mut T, bytes: u64) -> Result<Gathered, PlanError>
     requires { bytes ≤ most JobBytes }
     ensures ok { IsTrue T.tells → IfOk result (λ found. bases.base_files (T.content tree.old) bytes ≡ Ok found) }

@@ -1,5 +1,6 @@
 // A port's list of distfiles, and the port's own files that may not stand beside it.
-ghost use Rattle.std.specs.Prelude.{◌≡◌, ◌≢◌, Ok, Err, IfOk, IfErr, OnOk};
+ghost use Rattle.std.specs.Prelude.{◌≡◌, ◌≢◌, find, Ok, Err, IfOk, IfErr, OnOk};
+ghost use Rattle.std.specs.Option.{option_copied};
 ghost use Rattle.job_files.specs.Distfiles as distfiles;
 ghost use Rattle.job_files.specs.Faults as faults;
 ghost use Rattle.job_files.specs.FileForms.{AreEntries, IsFreeOfDist};
@@ -67,6 +68,13 @@ fn whole_path(alloc: Global, folder: &Path, file: &Path) -> Result<Text, NoMemor
     Ok(path)
 }
 
+/// The first of some files that stands where distfiles would.
+fn first_kept(files: &[FileItem]) -> Option<&FileItem>
+    ensures { option_copied result ≡ find (λ file. distfiles.is_kept_for_dist file.path) files.now }
+{
+    files.iter().find(|file| is_kept_for_dist(&file.path))
+}
+
 /// Refuses the first of a port's own files that stands where its distfiles would: BadPort with Reserved at line 0.
 pub(crate) fn refuse_kept(alloc: Global, folder: &Path, files: &[FileItem]) -> Result<(), PlanError>
     ensures ok { OnOk result (distfiles.refuse_kept folder.now files.now ≡ Ok tt) }
@@ -74,7 +82,7 @@ pub(crate) fn refuse_kept(alloc: Global, folder: &Path, files: &[FileItem]) -> R
     ensures refused { IfErr result (λ e. e ≢ PlanError.NoMemory → distfiles.refuse_kept folder.now files.now ≡ Err e) }
     ensures quiet { IfErr result (λ e. e ≢ PlanError.TreeFault) }
 {
-    match files.iter().find(|file| is_kept_for_dist(&file.path)) {
+    match first_kept(files) {
         None => Ok(()),
         Some(file) => Err(PlanError::BadPort {
             path: whole_path(alloc, folder, &file.path)?,

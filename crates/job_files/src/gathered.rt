@@ -42,7 +42,10 @@ pub(crate) fn add_file(
     ensures few { IfOk result (λ more. more.bytes ≤ most JobBytes) }
     ensures quiet { IfErr result (λ e. e ≢ PlanError.TreeFault) }
 {
-    let Gathered { mut files, bytes: before } = gathered;
+    let Gathered {
+        mut files,
+        bytes: before,
+    } = gathered;
     let count = before + bytes.len() as u64;
     if count > Which::JobBytes.most() {
         return Err(PlanError::Limit {

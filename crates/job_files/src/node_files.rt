@@ -61,7 +61,11 @@ fn read_entries(
     ensures quiet { IfErr result (λ e. e ≢ PlanError.TreeFault) }
 {
     let dists = entries_in(alloc, path, bytes)?;
-    refuse_kept(alloc, &files_folder(alloc, &node.origin)?, own.files.as_slice())?;
+    refuse_kept(
+        alloc,
+        &files_folder(alloc, &node.origin)?,
+        own.files.as_slice(),
+    )?;
     Ok(dists)
 }
 

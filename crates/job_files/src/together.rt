@@ -9,7 +9,7 @@ use std::alloc::Global;
 fn comes_before_dist(file: &FileItem) -> bool
     ensures { result ≡ distfiles.comes_before_dist file.now }
 {
-    file.path.bytes() < b"dist/".as_slice()
+    file.path.bytes().cmp(b"dist/".as_slice()).is_lt()
 }
 
 /// A list of files as those before the distfiles, and those behind them.
