@@ -1,6 +1,7 @@
 pub mod Needed
 pub mod Lost
 pub mod PlanEdges
+pub mod Edges
 pub mod Boosts
 pub mod Jobs
 pub mod Plans
@@ -8,3 +9,4 @@ pub mod Over
 pub mod Recipes
 pub mod TreeJobs
 pub mod Laws
+pub mod Outlines

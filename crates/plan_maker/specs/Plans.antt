@@ -43,11 +43,16 @@ unlooped index nodes =
     if is_loopless (plan_edges index nodes) then Ok nodes
     else Err (Loop (names_at index nodes (exact_loop (plan_edges index nodes))))
 
+-- the needed nodes, where no dependency of them leads nowhere and there are not too many
+abbrev pub few_nodes : IndexView → List ℕ → Result (List ℕ) PlanError
+few_nodes index wanted = do
+  nodes ← none_lost index (needed index wanted)
+  few nodes
+
 -- the nodes of a plan, or the first refusal that needs no file
 unfoldable pub plan_nodes : IndexView → List ℕ → Result (List ℕ) PlanError
 plan_nodes index wanted = do
-  all ← none_lost index (needed index wanted)
-  nodes ← few all
+  nodes ← few_nodes index wanted
   unlooped index nodes
 
 -- a plan of nodes with their jobs and the base root

@@ -61,7 +61,7 @@ pub fn plan<T: Tree>(
     ensures cause { IsCaused (T.faults tree.old) (T.faults tree.new) result }
 {
     let outline = outline(alloc, index, wanted, boost)?;
-    let found = read_jobs(alloc, tree, index, &outline.nodes)?;
+    let found = read_jobs(alloc, tree, index, outline.nodes.as_slice())?;
     let base = read_base(alloc, tree, found.bytes)?;
     Ok(complete(outline, found.jobs, base.files))
 }

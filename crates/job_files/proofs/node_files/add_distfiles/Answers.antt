@@ -1,4 +1,4 @@
-use Rattle.std.proofs.Common.{◌≡◌, ◌≢◌, ◌∙◌, ap, sym, subst, Vec, Global, ℕ, Err, take}
+use Rattle.std.proofs.Common.{◌≡◌, ◌≢◌, ◌∙◌, ◌+◌, ap, sym, subst, Vec, Global, ℕ, Err, take}
 use Rattle.std.specs.Prelude.{Some}
 use Rattle.std.specs.Result.{IfErr}
 use Rattle.std.specs.Option.{option_map}
@@ -15,7 +15,7 @@ returns-clause-refused g c t =
     let content : Contents = g.T.Tree.content c.args.tree.now in
     let node = c.args.node.now in
     let read : Some c.in-Some.bytes.items ≡ option_map (take 4194305) (get content c.in_ok-path.path) =
-    ap (option_map (λ (b : Vec ℕ Global). b.items)) (sym c.in-Some.is) ∙ c.in_ok-bytes.ensures.told t in
+    ap (option_map (λ (b : Vec ℕ Global). b.items)) (sym c.in-Some.is) ∙ c.in_ok-bytes.ensures.told t ∙ ap (λ m. option_map (take (m + 1)) (get content c.in_ok-path.path)) c.most.ensures in
     let held : Some c.in-Some.bytes.items ≡ option_map (take 4194305) (get content (distinfo_file node.origin)) =
     read ∙ ap (λ p. option_map (take 4194305) (get content p)) c.in_ok-path.ensures in
     let is : by_list (g.T.Tree.content c.bytes.new.self) node c.args.own c.as_slice.result.now ≡ with_listed content node c.args.own =
