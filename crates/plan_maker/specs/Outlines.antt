@@ -20,8 +20,8 @@ pub record IsOutline (index : IndexView) (wanted boost : List ℕ) (outline : Ou
   pub nodes : outline.nodes ≡ needed index wanted
   pub edges : outline.edges ≡ plan_edges index (needed index wanted)
   pub ignored : outline.ignored ≡ map (λ n. (node_at index n).ignored) (needed index wanted)
-  pub wanted : outline.wanted ≡ map (place_in (needed index wanted)) wanted
-  pub boosted : outline.boosted ≡ map (λ n. is_boosted boost (node_at index n).desc.name) (needed index wanted)
+  pub places : outline.wanted ≡ map (place_in (needed index wanted)) wanted
+  pub marks : outline.boosted ≡ map (λ n. is_boosted boost (node_at index n).desc.name) (needed index wanted)
   pub reach : AreNeeded index (needed index wanted)
   pub within : AreNodes index (needed index wanted)
   pub begun : All (λ n. IsTrue (has (needed index wanted) n)) wanted

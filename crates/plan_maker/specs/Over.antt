@@ -25,7 +25,7 @@ pub record IsOver (index : IndexView) (wanted : List ℕ) (plan : PlanView) : Ty
   pub jobs : map bare plan.jobs ≡ map (λ n. job_of index n []) (needed index wanted)
   pub edges : plan.edges ≡ plan_edges index (needed index wanted)
   pub ignored : plan.ignored ≡ map (λ n. (node_at index n).ignored) (needed index wanted)
-  pub wanted : plan.wanted ≡ map (place_in (needed index wanted)) wanted
+  pub places : plan.wanted ≡ map (place_in (needed index wanted)) wanted
 
 -- its marks are those of the words of PRIORITY_BOOST
 abbrev pub IsBoostedBy : IndexView → List ℕ → List ℕ → PlanView → Type 0

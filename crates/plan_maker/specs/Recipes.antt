@@ -1,5 +1,5 @@
 -- The recipes of nodes (docs/DEFINITIONS.md, "The recipe").
-use Rattle.std.specs.Prelude.{ℕ, List, length, map, is_some, if◌then◌else◌}
+use Rattle.std.specs.Prelude.{◌≡◌, ℕ, Bool, true, false, ◌<◌, List, length, map, is_some, slice_index_or, if◌then◌else◌}
 use Rattle.std.specs.declared.option.Option.{Option}
 use Rattle.std.specs.declared.option.Option.TheVariants.{None, Some}
 use Rattle.std.specs.Option.{option_map, option_and_then}
@@ -30,11 +30,27 @@ job_to_build content index n =
     else option_and_then (job_alone content (node_at index n)) (depends_of index n)
 
 -- the recipe over a base root, where it is asked for
+abbrev pub recipe_where : Contents → IndexView → List FileItem → Bool → ℕ → Option Digest
+recipe_where content index base asked n =
+    if asked then option_map (recipe base) (job_to_build content index n) else None
+
+-- the same where the node is one of some nodes
 abbrev pub recipe_at : Contents → IndexView → List FileItem → List ℕ → ℕ → Option Digest
-recipe_at content index base nodes n =
-    if has nodes n then option_map (recipe base) (job_to_build content index n) else None
+recipe_at content index base nodes n = recipe_where content index base (has nodes n) n
 
 -- one place for each node of the index
 unfoldable pub recipes_in : Contents → IndexView → List FileItem → List ℕ → List (Option Digest)
 recipes_in content index base nodes =
     map (recipe_at content index base nodes) (range_with_len 0 (length index.nodes))
+
+-- a node that is asked for, is not ignored, and whose dependencies all lead to nodes
+pub record MayHaveRecipe (index : IndexView) (asked : Bool) (n : ℕ) : Type 0 where
+  pub asked_for : asked ≡ true
+  pub built : is_some (node_at index n).ignored ≡ false
+  pub whole : is_some (depends_of index n) ≡ true
+
+-- no other has one, whatever the tree holds
+abbrev pub HasOnlyAsked : IndexView → List ℕ → List (Option Digest) → Type 0
+HasOnlyAsked index nodes digests =
+    (n : ℕ) → n < length index.nodes → is_some (slice_index_or digests n None) ≡ true
+    → MayHaveRecipe index (has nodes n) n

@@ -15,6 +15,6 @@ mod planning;
 mod recipe_list;
 
 pub use job_files::PlanError;
-pub use law::{plan_laws, recipe_laws};
+pub use law::plan_laws;
 pub use planning::plan;
 pub use recipe_list::recipes;

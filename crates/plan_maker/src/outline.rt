@@ -127,7 +127,7 @@ fn outline_of(
 
 /// A plan but for its jobs and its base root, or the first refusal that needs no file.
 #[tactic(auto, unfolding(crate::specs::Plans::plan_nodes))]
-pub(crate) fn outline(
+pub(crate) fn make_outline(
     alloc: Global,
     index: &Index,
     wanted: &Numbers,

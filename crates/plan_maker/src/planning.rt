@@ -3,19 +3,26 @@ ghost use Rattle.std.specs.Prelude.{◌≡◌, ◌≢◌, ◌≤◌, ◌⊎◌, 
 ghost use Rattle.bulk_model.specs.Trees.{IsOrderly};
 ghost use Rattle.job_files.specs.declared.fault.PlanError.{PlanError as WhyNot};
 ghost use Rattle.job_files.specs.Faults.{IsCaused};
-ghost use Rattle.plan_maker.specs.Laws.{AreNodes};
+ghost use Rattle.plan_maker.specs.Laws.{AreNodes, IsIndexView};
 ghost use Rattle.plan_maker.specs.Needed.{needed};
 ghost use Rattle.plan_maker.specs.Over.{IsOver, IsBoostedBy};
 ghost use Rattle.plan_maker.specs.Plans.{plan_nodes, plan_in};
 
 use crate::node_job::read_jobs;
-use crate::outline::{complete, outline};
+use crate::outline::{complete, make_outline};
 use bulk_base::Text;
 use bulk_model::{Numbers, Plan};
 use job_files::{PlanError, read_base};
 use outside::Tree;
 use std::alloc::Global;
 use tree_index::Index;
+
+/// That an index is one, for what the plan is to hold.
+fn index_form(index: &Index)
+    ensures { IsIndexView index.now }
+{
+    let _ = index.nodes.len();
+}
 
 /// The plan of what is wanted of a tree (poudriere-bulk(8); docs/DEFINITIONS.md, "The plan"): the nodes of `wanted` and all that
 /// they lead to, in node order, with the job of each, the graph of their dependencies by their places in the plan, why each is
@@ -60,7 +67,8 @@ pub fn plan<T: Tree>(
     ensures same { T.content tree.new ≡ T.content tree.old }
     ensures cause { IsCaused (T.faults tree.old) (T.faults tree.new) result }
 {
-    let outline = outline(alloc, index, wanted, boost)?;
+    index_form(index);
+    let outline = make_outline(alloc, index, wanted, boost)?;
     let found = read_jobs(alloc, tree, index, outline.nodes.as_slice())?;
     let base = read_base(alloc, tree, found.bytes)?;
     Ok(complete(outline, found.jobs, base.files))
