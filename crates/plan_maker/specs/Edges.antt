@@ -1,5 +1,5 @@
 -- Edges by numbers that nodes are given, and nodes that have with each all that it leads to.
-use Rattle.std.specs.Prelude.{ℕ, ◌<◌, ◌≤◌, ◌^◌, List, [], length, map, slice_index}
+use Rattle.std.specs.Prelude.{ℕ, ◌<◌, ◌^◌, List, [], length, map, slice_index}
 use Rattle.std.specs.Option.{unwrap_or}
 use Rattle.std.specs.List.{All}
 use Rattle.std.specs.List.Sorted.{IsStrictlyIncreasing}
@@ -19,5 +19,6 @@ edges_by index places n = map (edge_by places) (unwrap_or (edges_of index n) [])
 -- nodes of the tree in order, each once, and with each all that it leads to
 pub record AreNeeded (index : IndexView) (nodes : List ℕ) : Type 0 where
   pub order : IsStrictlyIncreasing nodes
+  pub few : length nodes < 2 ^ 32
   pub within : All (λ n. n < length index.nodes) nodes
   pub closed : IsClosed (depends_at (needs index)) (length index.nodes) (has nodes)

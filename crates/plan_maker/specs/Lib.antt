@@ -1,3 +1,4 @@
+pub mod Nodes
 pub mod Needed
 pub mod Lost
 pub mod PlanEdges
@@ -8,5 +9,4 @@ pub mod Plans
 pub mod Over
 pub mod Recipes
 pub mod TreeJobs
-pub mod Laws
 pub mod Outlines

@@ -11,7 +11,7 @@ use Rattle.plan_maker.specs.declared.outline.Outline.{Outline}
 use Rattle.plan_maker.specs.Boosts.{is_boosted}
 use Rattle.plan_maker.specs.Edges.{AreNeeded}
 use Rattle.plan_maker.specs.Jobs.{node_at}
-use Rattle.plan_maker.specs.Laws.{AreNodes}
+use Rattle.plan_maker.specs.Nodes.{AreNodes}
 use Rattle.plan_maker.specs.Needed.{needed}
 use Rattle.plan_maker.specs.PlanEdges.{place_in, plan_edges}
 

@@ -1,11 +1,9 @@
 // Which nodes are built before others.
-ghost use Rattle.std.specs.Prelude.{◌≡◌, ◌≤◌, length, map, take, IsTrue, IfOk};
+ghost use Rattle.std.specs.Prelude.{◌≡◌, ◌≤◌, ◌<◌, length, map, take, true, slice_index, slice_set, IfOk, if◌then◌else◌};
 ghost use Rattle.std.specs.List.{list_any};
-ghost use Rattle.bulk_base.specs.Names.{IsPackageName};
-ghost use Rattle.bulk_base.specs.Words.{words_of};
 ghost use Rattle.plan_maker.specs.Boosts as boosts;
 ghost use Rattle.plan_maker.specs.Jobs as jobs;
-ghost use Rattle.plan_maker.specs.Laws.{AreNodes};
+ghost use Rattle.plan_maker.specs.Nodes.{AreNodes};
 
 use crate::finding::node_at;
 use bulk_base::{NoMemory, Text, words};
@@ -17,6 +15,7 @@ use tree_index::Index;
 /// Where the last `-` of a name stands, or 0.
 fn last_dash(name: &[u8]) -> usize
     ensures within { result ≤ length name.now }
+    ensures dash { 0 < result → (result < length name.now) × (slice_index name.now result ≡ 45) }
     ensures base { take result name.now ≡ boosts.base_name name.now }
 {
     let mut at = name.len();
@@ -51,6 +50,16 @@ fn is_matched(patterns: &[Text], name: &Text) -> bool
     patterns.iter().any(|pattern| is_match(pattern, name))
 }
 
+/// Marks a node where a test holds.
+fn mark_where(marks: &mut Flags, at: usize, holds: bool)
+    requires { at < length marks.old }
+    ensures { marks.new ≡ (if holds then slice_set marks.old at true else marks.old) }
+{
+    if holds {
+        marks.set(at);
+    }
+}
+
 /// A mark at each of some nodes whose package's name, without its version, a word of PRIORITY_BOOST matches. Each word is tried
 /// at each node.
 pub(crate) fn boosted(
@@ -66,9 +75,7 @@ pub(crate) fn boosted(
     let mut marks = Flags::none(alloc, nodes.len())?;
     for at in 0..nodes.len() {
         let base = base_name(alloc, &node_at(index, nodes[at]).desc.name)?;
-        if is_matched(patterns.as_slice(), &base) {
-            marks.set(at);
-        }
+        mark_where(&mut marks, at, is_matched(patterns.as_slice(), &base));
     }
     Ok(marks)
 }

@@ -4,7 +4,7 @@ ghost use Rattle.std.specs.List.{All, AllByRecursion};
 ghost use Rattle.dep_graph.specs.Graphs.{IsGraph};
 ghost use Rattle.dep_graph.specs.Order.{is_loopless};
 ghost use Rattle.plan_maker.specs.Edges as inner;
-ghost use Rattle.plan_maker.specs.Laws.{AreNodes};
+ghost use Rattle.plan_maker.specs.Nodes.{AreNodes};
 ghost use Rattle.plan_maker.specs.PlanEdges as graphs;
 ghost use Rattle.plan_maker.specs.Plans as plans;
 

@@ -5,7 +5,6 @@ mod boost;
 mod finding;
 mod graph;
 mod job_list;
-mod law;
 mod lost;
 mod needed;
 mod node_job;
@@ -15,6 +14,5 @@ mod planning;
 mod recipe_list;
 
 pub use job_files::PlanError;
-pub use law::plan_laws;
 pub use planning::plan;
 pub use recipe_list::recipes;

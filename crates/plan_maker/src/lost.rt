@@ -1,7 +1,7 @@
 // Dependencies that lead to no node.
-ghost use Rattle.std.specs.Prelude.{◌≡◌, ◌≢◌, ◌<◌, length, IfOk};
+ghost use Rattle.std.specs.Prelude.{◌≡◌, ◌≢◌, IfOk, IfSome};
 ghost use Rattle.std.specs.Option.{option_copied};
-ghost use Rattle.plan_maker.specs.Laws.{AreNodes};
+ghost use Rattle.plan_maker.specs.Nodes.{AreNodes};
 ghost use Rattle.plan_maker.specs.Lost as losing;
 
 use crate::finding::node_at;
@@ -12,7 +12,8 @@ use tree_index::{At, Index, NodeInfo, Target};
 
 /// That a dependency of a port leads to no node, where it does.
 fn lost_at(alloc: Global, port: &Text, at: &At) -> Result<Option<PlanError>, NoMemory>
-    ensures { IfOk result (λ lost. lost ≡ losing.lost_at port.now at.now) }
+    ensures lost { IfOk result (λ lost. lost ≡ losing.lost_at port.now at.now) }
+    ensures quiet { IfOk result (λ lost. IfSome lost (λ e. e ≢ PlanError.TreeFault)) }
 {
     match at {
         At::Node(_) => Ok(None),
@@ -34,7 +35,8 @@ fn first_lost_of(
     port: &Text,
     targets: &[Target],
 ) -> Result<Option<PlanError>, NoMemory>
-    ensures { IfOk result (λ lost. lost ≡ losing.first_of (λ target. losing.lost_at port.now target.at) targets.now) }
+    ensures lost { IfOk result (λ lost. lost ≡ losing.first_of (λ target. losing.lost_at port.now target.at) targets.now) }
+    ensures quiet { IfOk result (λ lost. IfSome lost (λ e. e ≢ PlanError.TreeFault)) }
 {
     for target in targets {
         let lost = lost_at(alloc, port, &target.at)?;
@@ -47,7 +49,8 @@ fn first_lost_of(
 
 /// The same of a node that is not ignored.
 fn lost_of(alloc: Global, node: &NodeInfo) -> Result<Option<PlanError>, NoMemory>
-    ensures { IfOk result (λ lost. lost ≡ losing.lost_of node.now) }
+    ensures lost { IfOk result (λ lost. lost ≡ losing.lost_of node.now) }
+    ensures quiet { IfOk result (λ lost. IfSome lost (λ e. e ≢ PlanError.TreeFault)) }
 {
     if node.ignored.is_some() {
         return Ok(None);
@@ -62,7 +65,8 @@ pub(crate) fn first_lost(
     nodes: &[u32],
 ) -> Result<Option<PlanError>, NoMemory>
     requires { AreNodes index.now nodes.now }
-    ensures { IfOk result (λ lost. lost ≡ losing.first_lost index.now nodes.now) }
+    ensures lost { IfOk result (λ lost. lost ≡ losing.first_lost index.now nodes.now) }
+    ensures quiet { IfOk result (λ lost. IfSome lost (λ e. e ≢ PlanError.TreeFault)) }
 {
     for n in nodes {
         let lost = lost_of(alloc, node_at(index, *n))?;

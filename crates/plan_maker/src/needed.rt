@@ -1,11 +1,10 @@
 // The needed nodes.
-ghost use Rattle.std.specs.Prelude.{◌≡◌, ◌<◌, length, take, map, IfOk, IfSome, OnOk, ◌++◌};
-ghost use Rattle.std.specs.List.{AllByRecursion, filter_map, All};
-ghost use Rattle.std.specs.List.Sorted.{IsStrictlyIncreasing};
+ghost use Rattle.std.specs.Prelude.{◌≡◌, ◌++◌, IfOk, OnOk};
+ghost use Rattle.std.specs.List.{filter_map};
+ghost use Rattle.std.specs.Option.{option_to_list};
 ghost use Rattle.dep_graph.specs.Graphs.{IsGraph};
 ghost use Rattle.dep_graph.specs.Reached.{IsReach};
-ghost use Rattle.tree_index.specs.Facts.{AreWithin};
-ghost use Rattle.plan_maker.specs.Laws.{AreNodes};
+ghost use Rattle.plan_maker.specs.Nodes.{AreNodes};
 ghost use Rattle.plan_maker.specs.Needed as needs;
 
 use bulk_base::{NoMemory, Sequence};
@@ -27,15 +26,23 @@ fn edge_of(target: &Target) -> Option<Edge>
     }
 }
 
+/// Puts an edge at the end of a list, if there is one.
+fn push_edge(edges: &mut Edges, edge: Option<Edge>) -> Result<(), NoMemory>
+    ensures { OnOk result (edges.new ≡ edges.old ++ option_to_list edge) }
+{
+    if let Some(edge) = edge {
+        edges.push(edge)?;
+    }
+    Ok(())
+}
+
 /// The edges of dependencies that lead to nodes.
 fn edges_of(alloc: Global, targets: &[Target]) -> Result<Edges, NoMemory>
     ensures { IfOk result (λ edges. edges ≡ filter_map needs.edge_of targets.now) }
 {
     let mut edges = Sequence::new(alloc);
     for target in targets {
-        if let Some(edge) = edge_of(target) {
-            edges.push(edge)?;
-        }
+        push_edge(&mut edges, edge_of(target))?;
     }
     Ok(edges)
 }

@@ -6,7 +6,7 @@ ghost use Rattle.bulk_model.specs.Limits.{most};
 ghost use Rattle.bulk_model.specs.declared.which.Which.TheVariants.{JobBytes};
 ghost use Rattle.job_files.specs.Faults.{IsCaused};
 ghost use Rattle.plan_maker.specs.Jobs as jobs;
-ghost use Rattle.plan_maker.specs.Laws.{AreNodes};
+ghost use Rattle.plan_maker.specs.Nodes.{AreNodes};
 ghost use Rattle.plan_maker.specs.Over.{bare};
 ghost use Rattle.tree_index.specs.Depends as depends;
 ghost use Rattle.tree_index.specs.Facts.{IsNodeInfo};

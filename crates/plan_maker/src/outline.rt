@@ -6,7 +6,7 @@ ghost use Rattle.dep_graph.specs.Graphs.{has};
 ghost use Rattle.plan_maker.specs.Boosts.{is_boosted};
 ghost use Rattle.plan_maker.specs.Edges.{AreNeeded};
 ghost use Rattle.plan_maker.specs.Jobs as jobs;
-ghost use Rattle.plan_maker.specs.Laws.{AreNodes};
+ghost use Rattle.plan_maker.specs.Nodes.{AreNodes};
 ghost use Rattle.plan_maker.specs.Needed as needs;
 ghost use Rattle.plan_maker.specs.Outlines.{IsOutline, plan_by};
 ghost use Rattle.plan_maker.specs.PlanEdges as graphs;

@@ -3,7 +3,7 @@ ghost use Rattle.std.specs.Prelude.{◌≡◌, ◌≢◌, ◌≤◌, ◌⊎◌, 
 ghost use Rattle.bulk_model.specs.Trees.{IsOrderly};
 ghost use Rattle.job_files.specs.declared.fault.PlanError.{PlanError as WhyNot};
 ghost use Rattle.job_files.specs.Faults.{IsCaused};
-ghost use Rattle.plan_maker.specs.Laws.{AreNodes, IsIndexView};
+ghost use Rattle.plan_maker.specs.Nodes.{AreNodes, IsIndexView};
 ghost use Rattle.plan_maker.specs.Needed.{needed};
 ghost use Rattle.plan_maker.specs.Over.{IsOver, IsBoostedBy};
 ghost use Rattle.plan_maker.specs.Plans.{plan_nodes, plan_in};

@@ -10,7 +10,7 @@ ghost use Rattle.job_files.specs.NodeFiles.{node_files};
 ghost use Rattle.outside.specs.Faults.{HasCause};
 ghost use Rattle.bulk_model.specs.Flags.{flag};
 ghost use Rattle.plan_maker.specs.Jobs as jobs;
-ghost use Rattle.plan_maker.specs.Laws.{AreNodes};
+ghost use Rattle.plan_maker.specs.Nodes.{AreNodes};
 ghost use Rattle.plan_maker.specs.Recipes as listed;
 ghost use Rattle.tree_index.specs.Depends as depends;
 ghost use Rattle.tree_index.specs.Facts.{IsNodeInfo};
@@ -24,6 +24,24 @@ use outside::{Outer, Tree};
 use pkg_record::recipe;
 use std::alloc::Global;
 use tree_index::{Index, NodeInfo, depends_of};
+
+/// What of the outside is to blame for a refusal; None where it is the files themselves.
+fn outer_of(refusal: &PlanError) -> Option<Outer>
+    ensures fault { result ≡ Some Outer.Fault → refusal.now ≡ PlanError.TreeFault }
+    ensures memory { result ≡ Some Outer.NoMemory → refusal.now ≡ PlanError.NoMemory }
+    ensures none { result ≡ None → (refusal.now ≢ PlanError.TreeFault) × (refusal.now ≢ PlanError.NoMemory) }
+{
+    match refusal {
+        PlanError::TreeFault => Some(Outer::Fault),
+        PlanError::NoMemory => Some(Outer::NoMemory),
+        PlanError::NoDepend { .. }
+        | PlanError::MovedDepend { .. }
+        | PlanError::Limit { .. }
+        | PlanError::Loop { .. }
+        | PlanError::BadPort { .. }
+        | PlanError::BadDist { .. } => None,
+    }
+}
 
 /// The files of a node's job by itself; None where something is refused of them.
 fn read_files<T: Tree>(
@@ -39,9 +57,10 @@ fn read_files<T: Tree>(
 {
     match read_node_files(alloc, tree, node, 0) {
         Ok(found) => Ok(Some(found)),
-        Err(PlanError::TreeFault) => Err(Outer::Fault),
-        Err(PlanError::NoMemory) => Err(Outer::NoMemory),
-        Err(_) => Ok(None),
+        Err(refusal) => match outer_of(&refusal) {
+            Some(outer) => Err(outer),
+            None => Ok(None),
+        },
     }
 }
 
