@@ -4,4 +4,9 @@ pub mod Losing
 pub mod Collecting
 pub mod Placing
 pub mod Leading
+pub mod EdgeNumbers
 pub mod JobForm
+pub mod Causing
+pub mod Listing
+pub mod Marking
+pub mod Planned

@@ -54,6 +54,7 @@ pub(crate) fn plan_edges(
     requires { inner.AreNeeded index.now nodes.now }
     ensures edges { IfOk result (λ lists. lists ≡ graphs.plan_edges index.now nodes.now) }
     ensures graph { IfOk result IsGraph }
+    ensures size { IfOk result (λ lists. length lists ≡ length nodes.now) }
 {
     let places = number_nodes(alloc, index.nodes.len(), nodes)?;
     let mut lists = Sequence::new(alloc);

@@ -44,6 +44,7 @@ fn index_form(index: &Index)
 ///
 /// Each node and each edge of the tree is looked at a fixed number of times, each pattern is tried at each needed node, and each
 /// file is read once for each needed node of its port.
+#[tactic(auto, unfolding(crate::specs::Plans::plan_in))]
 pub fn plan<T: Tree>(
     alloc: Global,
     tree: &mut T,

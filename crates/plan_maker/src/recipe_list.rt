@@ -1,5 +1,5 @@
 // The recipes of nodes.
-ghost use Rattle.std.specs.Prelude.{◌≡◌, ◌≢◌, ◌<◌, ℕ, true, false, length, map, slice_index_or, Some, None, Ok, Err, is_some, IsTrue, OnOk, IfOk, IfSome};
+ghost use Rattle.std.specs.Prelude.{◌≡◌, ◌≢◌, ◌<◌, ℕ, true, false, length, map, slice_index_or, Some, None, Ok, Err, is_some, IsTrue, IfOk, IfErr, IfSome};
 ghost use Rattle.std.specs.List.{AllByRecursion};
 ghost use Rattle.std.specs.Option.{option_map};
 ghost use Rattle.std.specs.Result.{result_ok};
@@ -107,6 +107,17 @@ fn job_to_build<T: Tree>(
     }
 }
 
+/// The recipe of a job over a base root.
+fn recipe_of(alloc: Global, base: &Files, job: &Job) -> Result<Option<Digest>, Outer>
+    ensures recipe { IfOk result (λ found. found ≡ Some (texts.recipe base.now job.now)) }
+    ensures quiet { IfErr result (λ e. e ≡ Outer.NoMemory) }
+{
+    match recipe(alloc, base, job) {
+        Ok(digest) => Ok(Some(digest)),
+        Err(_) => Err(Outer::NoMemory),
+    }
+}
+
 /// The recipe of the node of a number over a base root, where it can be built.
 fn read_recipe<T: Tree>(
     alloc: Global,
@@ -123,7 +134,7 @@ fn read_recipe<T: Tree>(
     ensures cause { HasCause (T.faults tree.old) (T.faults tree.new) result }
 {
     match job_to_build(alloc, tree, index, n)? {
-        Some(job) => Ok(Some(recipe(alloc, base, &job)?)),
+        Some(job) => recipe_of(alloc, base, &job),
         None => Ok(None),
     }
 }
