@@ -1,6 +1,6 @@
 -- What a node depends on is among what it leads to, and what nodes lead to are nodes.
 use Rattle.std.proofs.Common.{◌≡◌, ◌≢◌, ◌∙◌, ℕ, zero, suc, ◌+◌, ◌<◌, ◌≤◌, ◌^◌, Bool, true, false, List, [], ◌∷◌, ◌++◌, ap, sym, subst, refl, length, get_or, take, map, cond, arith, inl, inr, ◌⊎◌}
-use Rattle.std.specs.Prelude.{Option, Some, None, ◌==◌, ◌&&◌, is_some, Contains, filter, slice_get, IsTrue, IfSome}
+use Rattle.std.specs.Prelude.{Result, Ok, Option, Some, None, ◌==◌, ◌&&◌, is_some, Contains, filter, slice_get, IsTrue, IfSome}
 use Rattle.std.specs.Option.{option_map, option_and_then, unwrap_or}
 use Rattle.std.specs.List.{All, AllByRecursion, list_all, list_any, filter_map, flat_map, range_with_len, cons_option}
 use Rattle.std.proofs.lemmas.Bool.{and_parts, eqb-true, cases_lt}
@@ -153,3 +153,6 @@ needs_graph nodes f h = record { few = subst (λ count. count < 2 ^ 32) (sym (le
 
 pub all_taken : {X Y : Type 0} (f : X → Y) (items xs : List X) (i : ℕ) (ys : List Y) → length items ≤ i → items ≡ xs → ys ≡ map f (take i items) → ys ≡ map f xs
 all_taken f items xs i ys l e h = h ∙ ap (map f) (take_all i items l ∙ e)
+
+pub same_ok : {A E : Type 0} (a b : A) → (let r : Result A E = Ok a in r) ≡ Ok b → a ≡ b
+same_ok a b e = cc e

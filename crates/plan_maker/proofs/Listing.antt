@@ -27,3 +27,6 @@ asked_more index nodes n before now found asked size e a may so_far k l h =
 
 pub map_range_more : {Y : Type 0} (f : ℕ → Y) (n : ℕ) (before now : List Y) (y : Y) → before ≡ map f (range_with_len 0 n) → y ≡ f n → now ≡ before ++ y ∷ [] → now ≡ map f (range_with_len 0 (n + 1))
 map_range_more f n before now y b e w = w ∙ (λ t. b t ++ e t ∷ []) ∙ sym (map-range_with_len_more f 0 n n (omega arith))
+
+pub one_longer : (before now : List (Option Digest)) (found : Option Digest) (n : ℕ) → length before ≡ n → now ≡ before ++ found ∷ [] → length now ≡ n + 1
+one_longer before now found n size e = omega (arith, ap length e, length-append before (found ∷ []))
