@@ -1,11 +1,11 @@
 -- The edges of a plan, by the numbers that its nodes are given.
-use Rattle.std.proofs.Common.{◌≡◌, ◌∙◌, ℕ, ◌+◌, ◌<◌, ◌≤◌, Bool, true, false, List, [], ◌∷◌, ◌++◌, ap, sym, subst, refl, length, take, get_or, map, arith}
+use Rattle.std.proofs.Common.{◌≡◌, ◌∙◌, ℕ, ◌+◌, ◌<◌, true, List, [], ◌∷◌, ◌++◌, ap, sym, subst, refl, length, take, get_or, map, arith}
 use Rattle.std.specs.Prelude.{Option, Some, None, IsTrue, Contains}
 use Rattle.std.specs.Option.{unwrap_or}
-use Rattle.std.specs.List.{All, AllByRecursion}
-use Rattle.std.proofs.lemmas.List.{length-map, take_more, take_all, map-append}
+use Rattle.std.specs.List.{All}
+use Rattle.std.proofs.lemmas.List.{length-map, take_more, map-append}
 use Rattle.std.proofs.lemmas.List.Elements.{All-get_or, All-nil, All-cons}
-use Rattle.bulk_base.proofs.Members.{contains_here, contains_more, contains_none}
+use Rattle.bulk_base.proofs.Members.{contains_here, contains_more}
 use Rattle.bulk_model.specs.declared.plan.Edge.{Edge}
 use Rattle.dep_graph.specs.Graphs.{has, depends_at, IsGraph, IsWithin}
 use Rattle.dep_graph.proofs.Members.{has_from_place}
@@ -16,7 +16,7 @@ use Rattle.plan_maker.specs.Edges.{edge_by, edges_by, AreNeeded}
 use Rattle.plan_maker.specs.Needed.{needs}
 use Rattle.plan_maker.specs.PlanEdges.{place_in, edge_in, edges_in, plan_edges}
 use Rattle.plan_maker.proofs.Leading.{edge_leads}
-use Rattle.plan_maker.proofs.Placing.{IsPlaced, placed}
+use Rattle.plan_maker.proofs.Placing.{placed}
 
 -- what is put one after another is a map so far
 pub map_more : {Y : Type 0} (f : ℕ → Y) (xs : List ℕ) (i : ℕ) (y : Y) (before now : List Y) → i < length xs → before ≡ map f (take i xs) → y ≡ f (get_or xs i 0) → now ≡ before ++ y ∷ [] → now ≡ map f (take (i + 1) xs)

@@ -1,16 +1,16 @@
 -- What a node depends on is among what it leads to, and what nodes lead to are nodes.
-use Rattle.std.proofs.Common.{◌≡◌, ◌≢◌, ◌∙◌, ℕ, zero, suc, ◌+◌, ◌<◌, ◌≤◌, ◌^◌, Bool, true, false, List, [], ◌∷◌, ◌++◌, ap, sym, subst, refl, length, get_or, take, map, cond, arith, inl, inr, ◌⊎◌}
-use Rattle.std.specs.Prelude.{Result, Ok, Option, Some, None, ◌==◌, ◌&&◌, is_some, Contains, filter, slice_get, IsTrue, IfSome}
-use Rattle.std.specs.Option.{option_map, option_and_then, unwrap_or}
+use Rattle.std.proofs.Common.{◌≡◌, ◌≢◌, ◌∙◌, ℕ, zero, suc, ◌+◌, ◌<◌, ◌≤◌, ◌^◌, Bool, true, false, List, [], ◌∷◌, ap, sym, subst, refl, length, get_or, take, map, cond, arith, inl, inr}
+use Rattle.std.specs.Prelude.{Result, Ok, Option, Some, None, is_some, Contains, filter, slice_get, IfSome}
+use Rattle.std.specs.Option.{option_map, option_and_then}
 use Rattle.std.specs.List.{All, AllByRecursion, list_all, list_any, filter_map, flat_map, range_with_len, cons_option}
 use Rattle.std.proofs.lemmas.Bool.{and_parts, eqb-true, cases_lt}
 use Rattle.std.proofs.lemmas.List.{length-map, get_or-map, take_all}
 use Rattle.std.proofs.lemmas.List.Elements.{All-nil, All-cons, Contains-append_cases}
 use Rattle.std.proofs.lemmas.Option.{same_Some, slice_get-get_or, slice_get_past}
-use Rattle.bulk_base.proofs.Members.{Member, Source, any_member, map_contains, contains_map, filter_out_of, contains_none, given_filter_map, contains_cases, contains_has}
+use Rattle.bulk_base.proofs.Members.{Member, Source, any_member, map_contains, contains_map, filter_out_of, contains_none, given_filter_map}
 use Rattle.bulk_model.specs.declared.depend.DepKind.{DepKind}
 use Rattle.bulk_model.specs.declared.plan.Edge.{Edge}
-use Rattle.dep_graph.specs.Graphs.{has, targets, depends_at, edges_at, IsWithin, IsGraph}
+use Rattle.dep_graph.specs.Graphs.{has, targets, depends_at, IsWithin, IsGraph}
 use Rattle.tree_index.specs.declared.node.NodeInfo.{NodeInfo}
 use Rattle.tree_index.specs.declared.node.At.{At}
 use Rattle.tree_index.specs.declared.node.At.TheVariants.{Node, Nowhere, Moved}

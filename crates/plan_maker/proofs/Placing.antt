@@ -1,8 +1,7 @@
 -- The numbers that nodes have in a plan.
-use Rattle.std.proofs.Common.{◌≡◌, ◌∙◌, ℕ, ◌+◌, ◌<◌, ◌≤◌, Bool, true, false, List, [], ◌∷◌, ap, sym, subst, refl, length, drop, take, get_or, map, arith, inl, inr}
-use Rattle.std.specs.Prelude.{Option, Some, None, not, ◌==◌, nat_eq, position, Contains}
+use Rattle.std.proofs.Common.{◌≡◌, ◌∙◌, ℕ, ◌+◌, ◌<◌, ◌≤◌, true, List, ap, sym, subst, refl, length, take, get_or, arith, inl, inr}
+use Rattle.std.specs.Prelude.{not, ◌==◌}
 use Rattle.std.specs.Option.{unwrap_or}
-use Rattle.std.specs.List.{All, list_all}
 use Rattle.std.specs.List.Sorted.{IsStrictlyIncreasing}
 use Rattle.std.proofs.lemmas.Bool.{eq-eqb, cases_lt}
 use Rattle.std.proofs.Math.ListN.{set}
@@ -12,7 +11,7 @@ use Rattle.std.proofs.lemmas.List.Kept.{AllPairs-from_increasing}
 use Rattle.bulk_base.proofs.Members.{passes_all}
 use Rattle.bulk_base.proofs.Places.{none, position_here}
 use Rattle.dep_graph.specs.Graphs.{has}
-use Rattle.dep_graph.proofs.Members.{Place, place_of, all_has}
+use Rattle.dep_graph.proofs.Members.{Place, place_of}
 use Rattle.plan_maker.specs.PlanEdges.{place_in}
 
 apart : (a b : ℕ) → a < b → not (a == b) ≡ true

@@ -1,5 +1,5 @@
 -- A plan that is made of an outline, jobs and a base root has what every plan has.
-use Rattle.std.proofs.Common.{◌≡◌, ◌∙◌, ℕ, ◌+◌, ◌<◌, ◌≤◌, ◌^◌, Bool, true, false, List, [], ◌∷◌, ap, sym, subst, refl, length, get_or, map, cond, arith}
+use Rattle.std.proofs.Common.{◌≡◌, ◌∙◌, ℕ, ◌<◌, true, false, List, [], ◌∷◌, ap, sym, subst, refl, length, get_or, map, cond, arith}
 use Rattle.std.specs.Prelude.{Option, Some, None, IsTrue, Contains, is_some, slice_get, bytes_eq}
 use Rattle.std.specs.Option.{option_map, option_and_then, unwrap_or}
 use Rattle.std.specs.List.{list_all, All, AllByRecursion, IsDistinct}
@@ -10,20 +10,18 @@ use Rattle.std.proofs.lemmas.List.Elements.{All-get_or, All-from_get_or}
 use Rattle.std.proofs.lemmas.List.Kept.{AllPairs-from_increasing}
 use Rattle.std.proofs.lemmas.Map.Keys.{apart_from_distinct, IsDistinct-from_apart, Less-from_sorted}
 use Rattle.std.proofs.lemmas.Option.{slice_get-get_or}
-use Rattle.bulk_base.specs.Names.{node_of}
 use Rattle.bulk_base.specs.declared.file.FileItem.{FileItem}
 use Rattle.std.proofs.lemmas.List.{get_or_default}
 use Rattle.bulk_base.proofs.MapView.{order}
 use Rattle.bulk_base.proofs.Members.{contains_here, contains_more}
 use Rattle.bulk_model.specs.PlanFacts.{IsPlan, IsBase}
-use Rattle.bulk_model.specs.PlanView.{PlanView, count, depends, edges_from, is_ignored, is_loopless as has_no_loop, job_at, no_job, node_at as node_of_plan}
+use Rattle.bulk_model.specs.PlanView.{PlanView, depends, job_at, no_job, node_at as node_of_plan}
 use Rattle.bulk_model.specs.Trees.{IsOrderly, need_at}
 use Rattle.bulk_model.specs.Views.{JobView, node_of_job}
-use Rattle.bulk_model.specs.declared.depend.Depend.{Depend}
 use Rattle.bulk_model.specs.declared.plan.Edge.{Edge}
-use Rattle.dep_graph.specs.Graphs.{has, depends_at, IsGraph}
+use Rattle.dep_graph.specs.Graphs.{has, IsGraph}
 use Rattle.dep_graph.specs.Order.{is_loopless}
-use Rattle.dep_graph.proofs.Members.{all_from_has, has_at}
+use Rattle.dep_graph.proofs.Members.{all_from_has}
 use Rattle.dep_graph.proofs.OrderLaws.{loopless_plan}
 use Rattle.dep_graph.proofs.Reaching.{target_below}
 use Rattle.tree_index.specs.Depends.{edges_of, edges_by, reaches_node, edges_from as node_edges, depends_of, depend_on, name_at, package_at}
@@ -40,7 +38,7 @@ use Rattle.plan_maker.specs.Outlines.{IsOutline, plan_by}
 use Rattle.plan_maker.specs.Over.{bare, IsOver}
 use Rattle.plan_maker.specs.PlanEdges.{place_in, edge_in, edges_in, plan_edges}
 use Rattle.plan_maker.specs.declared.outline.Outline.{Outline}
-use Rattle.plan_maker.proofs.EdgeNumbers.{map_agree, edge_needed, size_of_edges, contains_has}
+use Rattle.plan_maker.proofs.EdgeNumbers.{edge_needed, size_of_edges}
 use Rattle.plan_maker.proofs.Placing.{IsPlaced, placed}
 
 -- ---- the nodes of an index
@@ -84,6 +82,7 @@ module _ (index : IndexView) (nodes : List ℕ) (jobs : List JobView) (bares : m
       again : (js : List JobView) → map (λ (job : JobView). job.name) (map bare js) ≡ map (λ (job : JobView). job.name) js
       again [] = refl
       again (job ∷ js) = ap (λ names. job.name ∷ names) (again js)
+
       over : (ns : List ℕ) → map (λ (job : JobView). job.name) (map (λ n. job_of index n []) ns) ≡ map (λ n. (node_at index n).desc.name) ns
       over [] = refl
       over (n ∷ ns) = ap (λ names. (node_at index n).desc.name ∷ names) (over ns)

@@ -1,5 +1,5 @@
 -- The jobs of a tree and its base root, whatever limits a plan has (docs/DEFINITIONS.md, "The jobs of a tree").
-use Rattle.std.specs.Prelude.{ℕ, Bool, List, [], ◌∷◌, length, codes, is_some, if◌then◌else◌}
+use Rattle.std.specs.Prelude.{ℕ, List, [], ◌∷◌, length, codes, is_some, if◌then◌else◌}
 use Rattle.std.specs.declared.option.Option.{Option}
 use Rattle.std.specs.declared.option.Option.TheVariants.{None, Some}
 use Rattle.std.specs.Option.{option_map, option_map_or, option_and_then}

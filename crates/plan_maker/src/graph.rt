@@ -46,11 +46,7 @@ fn edges_by(alloc: Global, index: &Index, places: &[u32], n: u32) -> Result<Edge
 }
 
 /// The edges of a plan of some nodes, in the plan's numbers.
-pub(crate) fn plan_edges(
-    alloc: Global,
-    index: &Index,
-    nodes: &[u32],
-) -> Result<EdgeLists, NoMemory>
+pub(crate) fn plan_edges(alloc: Global, index: &Index, nodes: &[u32]) -> Result<EdgeLists, NoMemory>
     requires { inner.AreNeeded index.now nodes.now }
     ensures edges { IfOk result (λ lists. lists ≡ graphs.plan_edges index.now nodes.now) }
     ensures graph { IfOk result IsGraph }

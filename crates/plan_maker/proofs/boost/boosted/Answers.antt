@@ -1,10 +1,10 @@
-use Rattle.std.proofs.Common.{◌≡◌, ◌∙◌, ℕ, Bool, List, ap, sym, length, replicate, get_or, false, refl}
+use Rattle.std.proofs.Common.{◌≡◌, ◌∙◌, ap, get_or}
 use Rattle.std.specs.List.{list_any}
 use Rattle.bulk_base.specs.Words.{words_of}
 use Rattle.tree_index.specs.declared.node.NodeInfo.{NodeInfo}
 use Rattle.plan_maker.specs.Boosts.{is_boosted, is_match, base_name}
 use Rattle.plan_maker.specs.Jobs.{node_at}
-use Rattle.plan_maker.proofs.Marking.{AreMarked, marked_more, marked_all, none_marked}
+use Rattle.plan_maker.proofs.Marking.{marked_more, marked_all, none_marked}
 use Rattle.plan_maker.proofs.boost.boosted.Goals as goal
 
 pub loop-at-init : goal.loop-at-init

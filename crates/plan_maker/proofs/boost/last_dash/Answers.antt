@@ -1,4 +1,4 @@
-use Rattle.std.proofs.Common.{◌≡◌, ◌∙◌, ◌-◌, suc, false, ap, drop, arith}
+use Rattle.std.proofs.Common.{◌≡◌, ◌∙◌, ◌-◌, suc, ap, drop, arith}
 use Rattle.plan_maker.specs.Boosts.{has_byte}
 use Rattle.plan_maker.proofs.BaseNames.{base_at, base_none}
 use Rattle.plan_maker.proofs.boost.last_dash.Goals as goal

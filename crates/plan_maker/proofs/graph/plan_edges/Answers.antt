@@ -1,8 +1,7 @@
-use Rattle.std.proofs.Common.{◌≡◌, ◌∙◌, ap, sym, subst, map, length, take}
+use Rattle.std.proofs.Common.{◌∙◌, ap, sym, subst, map, length}
 use Rattle.std.proofs.lemmas.List.{take_all}
 use Rattle.dep_graph.specs.Graphs.{IsGraph}
 use Rattle.plan_maker.specs.Edges.{edges_by}
-use Rattle.plan_maker.specs.PlanEdges.{plan_edges}
 use Rattle.plan_maker.proofs.EdgeNumbers.{edges_are, edges_graph, size_of_edges}
 use Rattle.plan_maker.proofs.graph.plan_edges.Goals as goal
 

@@ -1,9 +1,5 @@
-use Rattle.std.proofs.Common.{◌≡◌, ◌∙◌, ap, sym, subst, map, length, List}
-use Rattle.std.specs.List.{AllByRecursion}
+use Rattle.std.proofs.Common.{◌≡◌, sym, subst, map}
 use Rattle.dep_graph.specs.Graphs.{IsGraph}
-use Rattle.tree_index.specs.Facts.{AreWithin, AreTreeNodes}
-use Rattle.tree_index.specs.Index.{IndexView}
-use Rattle.tree_index.specs.declared.node.NodeInfo.{NodeInfo}
 use Rattle.plan_maker.specs.Needed.{needs_of}
 use Rattle.plan_maker.proofs.Leading.{needs_graph, all_taken}
 use Rattle.plan_maker.proofs.needed.needs.Goals as goal

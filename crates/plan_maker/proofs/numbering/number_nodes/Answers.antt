@@ -1,4 +1,4 @@
-use Rattle.std.proofs.Common.{◌≡◌, ◌<◌, ◌∙◌, length, length-set, get_or, refl, arith}
+use Rattle.std.proofs.Common.{◌<◌, ◌∙◌, length-set, get_or, refl, arith}
 use Rattle.std.proofs.lemmas.List.Elements.{All-get_or}
 use Rattle.plan_maker.proofs.Placing.{numbered_more, numbers_are}
 use Rattle.plan_maker.proofs.numbering.number_nodes.Goals as goal

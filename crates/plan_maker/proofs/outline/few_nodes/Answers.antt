@@ -1,4 +1,4 @@
-use Rattle.std.proofs.Common.{◌≡◌, ◌≤◌, length, arith}
+use Rattle.std.proofs.Common.{◌≤◌, length, arith}
 use Rattle.plan_maker.proofs.Leading.{are_needed}
 use Rattle.plan_maker.proofs.outline.few_nodes.Goals as goal
 

@@ -1,4 +1,4 @@
-use Rattle.std.proofs.Common.{◌≡◌, ◌∙◌, ◌<◌, ◌+◌, ap, sym, subst, refl, length, map, arith, length-append}
+use Rattle.std.proofs.Common.{◌≡◌, ◌∙◌, ap, refl, length, map, arith}
 use Rattle.std.specs.List.{range_with_len}
 use Rattle.dep_graph.specs.Graphs.{has}
 use Rattle.bulk_model.specs.PlanView.{PlanView}
