@@ -1,0 +1,59 @@
+//! Cases of plans and of recipes over trees in memory: a line of standard input each, with fields between bars, and an answer a
+//! line. A line `tree` sets the tree that the lines below it speak of.
+#![tactic(auto)]
+
+mod plans;
+mod recipe_cases;
+mod refusals;
+mod trees;
+
+use case_text::{CaseError, shown_answer};
+use std::alloc::{AllocError, Global};
+use std::io;
+
+fn answer(alloc: Global, tree: &str, case: &[&str], out: &mut Vec<u8>) -> Result<(), CaseError> {
+    match case {
+        ["plan", wanted] => plans::answer_plan(alloc, tree, [wanted, "", ""], out),
+        ["plan", wanted, boost] => plans::answer_plan(alloc, tree, [wanted, boost, ""], out),
+        ["plan", wanted, boost, fails] => {
+            plans::answer_plan(alloc, tree, [wanted, boost, fails], out)
+        }
+        ["recipes", wanted, nodes] => {
+            recipe_cases::answer_recipes(alloc, tree, [wanted, nodes, ""], out)
+        }
+        ["recipes", wanted, nodes, fails] => {
+            recipe_cases::answer_recipes(alloc, tree, [wanted, nodes, fails], out)
+        }
+        _ => Err(CaseError::Unfit),
+    }
+}
+
+/// The line of an answer. An empty line and one that begins with `#` are headings, and
+/// answer themselves; so does a tree, by its first word.
+fn answer_line(alloc: Global, tree: &str, line: &str) -> Result<String, AllocError> {
+    if line.is_empty() || line.starts_with('#') || line.starts_with("tree|") {
+        return if line.starts_with("tree|") {
+            "tree".to_string(alloc)
+        } else {
+            line.to_string(alloc)
+        };
+    }
+    let fields: Vec<&str> = line.split('|').collect(alloc)?;
+    let mut out = Vec::new(alloc);
+    let answered = answer(alloc, tree, fields.as_slice(), &mut out);
+    shown_answer(alloc, answered, out.as_slice())
+}
+
+fn main(rt: HostRuntime) -> io::Result<()> {
+    let alloc = rt.alloc();
+    let mut tree = String::new(alloc);
+    for line in rt.lines(alloc) {
+        let line = line?;
+        if let Some(files) = line.as_str().strip_prefix("tree|") {
+            tree = files.to_string(alloc)?;
+        }
+        let answer = answer_line(alloc, tree.as_str(), line.as_str())?;
+        println!(rt; "{answer}")?;
+    }
+    Ok(())
+}
