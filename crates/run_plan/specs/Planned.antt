@@ -33,7 +33,8 @@ planned_of words content rooms = do
   builders ← builders_step rooms words.dry_run (builders_asked words.builders settings.conf.jobs)
   planned_by words settings builders content
 
--- what words plan over a tree, with that many rooms to build in where they are counted, or the first refusal
+-- what words plan over a tree, with that many rooms to build in where they are counted, or the
+-- first refusal
 unfoldable pub planned : List (List ℕ) → Contents → Option ℕ → Result Planned Answer
 planned words content rooms = do
   asked ← words_step words

@@ -1,4 +1,5 @@
--- The settings of a run, and its number of builders: the second of its steps (docs/FORMATS.md, "Settings").
+-- The settings of a run, and its number of builders: the second of its steps (docs/FORMATS.md,
+-- "poudriere.conf", "Variable files").
 use Rattle.std.specs.Prelude.{ℕ, ◌==◌, Bool, ◌&&◌, ◌||◌, not, nat_lt, List, [], codes, Option, Some, None, Result, Ok, Err, unwrap_or, if◌then◌else◌}
 use Rattle.std.specs.FinMap.{get}
 use Rattle.port_vars.specs.Assignment.{◌>>=◌}
@@ -21,11 +22,13 @@ make_path = codes "etc/make.conf"
 
 -- what poudriere.conf says; a tree without one sets nothing
 abbrev pub conf_at : Contents → Result Conf Answer
-conf_at content = refused_as (conf_answer conf_path) (conf_of (unwrap_or (get content conf_path) []))
+conf_at content =
+    refused_as (conf_answer conf_path) (conf_of (unwrap_or (get content conf_path) []))
 
 -- what make.conf says; a tree without one sets nothing
 abbrev pub make_at : Contents → Result MakeConf Answer
-make_at content = refused_as (conf_answer make_path) (make_of (unwrap_or (get content make_path) []))
+make_at content =
+    refused_as (conf_answer make_path) (make_of (unwrap_or (get content make_path) []))
 
 -- step 2: the settings, or the first fault of poudriere.conf, then of make.conf
 unfoldable pub settings_step : Contents → Result Settings Answer
@@ -42,7 +45,9 @@ builders_asked words conf = unwrap_or words (unwrap_or conf 1)
 abbrev pub has_builders : ℕ → ℕ → Bool
 has_builders rooms asked = not (asked == 0) && not (nat_lt rooms asked)
 
--- step 2, its end: the number of builders, which is checked where there are rooms to be counted and something is built
+-- step 2, its end: the number of builders, which is checked where there are rooms to be counted and
+-- something is built
 abbrev pub builders_step : Option ℕ → Bool → ℕ → Result ℕ Answer
 builders_step None dry_run asked = Ok asked
-builders_step (Some rooms) dry_run asked = if dry_run || has_builders rooms asked then Ok asked else Err (Builders asked rooms)
+builders_step (Some rooms) dry_run asked =
+    if dry_run || has_builders rooms asked then Ok asked else Err (Builders asked rooms)

@@ -1,4 +1,5 @@
--- The tree, the wanted nodes and the plan of a run: the steps behind its settings (poudriere-bulk(8); docs/DEFINITIONS.md).
+-- The tree, the wanted nodes and the plan of a run: the steps behind its settings
+-- (poudriere-bulk(8); docs/DEFINITIONS.md).
 use Rattle.std.specs.Prelude.{ℕ, ◌+◌, Bool, ◌||◌, nat_lt, List, [], length, Option, Some, None, Result, Ok, Err, unwrap_or, if◌then◌else◌}
 use Rattle.std.specs.Option.{option_map_or}
 use Rattle.std.specs.FinMap.{get}
@@ -21,11 +22,14 @@ use Rattle.run_plan.specs.Told.{index_answer, wanted_answer, plan_answer}
 
 -- step 3: the index of the tree; broken ports are tried where the words or make.conf ask for it
 abbrev pub tree_step : MakeConf → Bool → Contents → Result IndexView Answer
-tree_step make try_broken content = refused_as index_answer (index_of make (make.try_broken || try_broken) content)
+tree_step make try_broken content =
+    refused_as index_answer (index_of make (make.try_broken || try_broken) content)
 
 -- a list with these bytes
 abbrev pub list_with : List ℕ → Result (List ℕ) Answer
-list_with bytes = if nat_lt (most FileBytes) (length bytes) then Err (Limit FileBytes (most FileBytes + 1)) else Ok bytes
+list_with bytes =
+    if nat_lt (most FileBytes) (length bytes) then Err (Limit FileBytes (most FileBytes + 1))
+    else Ok bytes
 
 -- what stands at a word, which need not be a path
 abbrev pub file_at : Contents → List ℕ → Option (List ℕ)
@@ -43,7 +47,8 @@ list_step content (Some word) = mapped Some (list_at content word)
 -- the nodes that a list, then the words want
 abbrev pub wanted_with : IndexView → PortWords → Bool → Option (List ℕ) → Result Wanted Answer
 wanted_with index ports every_flavor list =
-    refused_as (wanted_answer (unwrap_or ports.list [])) (wanted_of index list ports.origins ports.all every_flavor)
+    refused_as (wanted_answer (unwrap_or ports.list []))
+    (wanted_of index list ports.origins ports.all every_flavor)
 
 -- step 4: the nodes that the list of `-f`, then the words want
 unfoldable pub wanted_step : IndexView → PortWords → Bool → Contents → Result Wanted Answer

@@ -1,4 +1,5 @@
--- The words of a run: the first of its steps (poudriere-bulk(8); docs/FORMATS.md, "The words of a command").
+-- The words of a run: the first of its steps (poudriere-bulk(8); docs/FORMATS.md, "The words of a
+-- command").
 use Rattle.std.specs.Prelude.{ℕ, List, Result, Ok, Err}
 use Rattle.command_words.specs.declared.asked.Asked.{Asked}
 use Rattle.command_words.specs.declared.asked.Asked.TheVariants.{Bulk}

@@ -1,4 +1,5 @@
-//! What a run of `bulk` plans, from its words to its plan: words, settings, tree, wanted nodes, plan, each step a call.
+//! What a run of `bulk` plans, from its words to its plan: words, settings, tree, wanted nodes,
+//! plan, each step a call.
 #![tactic(auto)]
 
 mod builders;

@@ -16,10 +16,12 @@ use run_answer::Answer;
 use std::alloc::Global;
 use tree_index::Index;
 
-/// The plan of wanted nodes and all that they lead to: the fifth step of a run (poudriere-bulk(8); docs/DEFINITIONS.md, "The
-/// plan"). The words of `boost`, of PRIORITY_BOOST, match the packages that are to be built early.
+/// The plan of wanted nodes and all that they lead to: the fifth step of a run (poudriere-bulk(8);
+/// docs/DEFINITIONS.md, "The plan"). The words of `boost`, of PRIORITY_BOOST, match the packages
+/// that are to be built early.
 ///
-/// Refusals, TreeFault and NoMemory as `plan` of plan_maker has them, and its cost. The tree stays as it is.
+/// Refusals, TreeFault and NoMemory as `plan` of plan_maker has them, and its cost. The tree stays
+/// as it is.
 pub fn make_plan<T: Tree>(
     alloc: Global,
     tree: &mut T,
@@ -28,7 +30,8 @@ pub fn make_plan<T: Tree>(
     boost: &Text,
 ) -> Result<Plan, Answer>
     requires { AreNodes index.now wanted.now }
-    ensures told { IsTrue T.tells → Tells (steps.plan_step index.now wanted.now boost.now (T.content tree.old)) result }
+    ensures told { IsTrue T.tells → Tells
+        (steps.plan_step index.now wanted.now boost.now (T.content tree.old)) result }
     ensures over { IfOk result (IsOver index.now wanted.now) }
     ensures reading { IsOfReading result }
     ensures same { T.content tree.new ≡ T.content tree.old }

@@ -48,7 +48,8 @@ fn plan_settled<T: Tree>(
     settings: &Settings,
     builders: u64,
 ) -> Result<Planned, Answer>
-    ensures told { IsTrue T.tells → Tells (specs.planned_by words.now settings.now builders (T.content tree.old)) result }
+    ensures told { IsTrue T.tells → Tells
+        (specs.planned_by words.now settings.now builders (T.content tree.old)) result }
     ensures over { IfOk result (λ planned. IsOver planned.index planned.wanted planned.plan) }
     ensures reading { IsOfReading result }
     ensures same { T.content tree.new ≡ T.content tree.old }
@@ -77,7 +78,8 @@ fn plan_words<T: Tree>(
     words: &BulkWords,
     rooms: Option<u64>,
 ) -> Result<Planned, Answer>
-    ensures told { IsTrue T.tells → Tells (specs.planned_of words.now (T.content tree.old) rooms) result }
+    ensures told { IsTrue T.tells → Tells
+        (specs.planned_of words.now (T.content tree.old) rooms) result }
     ensures over { IfOk result (λ planned. IsOver planned.index planned.wanted planned.plan) }
     ensures reading { IsOfReading result }
     ensures same { T.content tree.new ≡ T.content tree.old }
@@ -89,17 +91,21 @@ fn plan_words<T: Tree>(
     plan_settled(alloc, tree, words, &settings, builders)
 }
 
-/// What the words of `bulk` plan over a tree (poudriere-bulk(8)): words, settings, tree, wanted nodes and plan, one after
-/// another, each as the call of this crate for it says, and the first refusal of them:
+/// What the words of `bulk` plan over a tree (poudriere-bulk(8)): words, settings, tree, wanted
+/// nodes and plan, one after another, each as the call of this crate for it says, and the first
+/// refusal of them:
 ///
 /// 1. `read_bulk`: Usage
-/// 2. `read_settings`: BadConf of `etc/poudriere.conf`, then of `etc/make.conf`; then `check_builders`: Builders
+/// 2. `read_settings`: BadConf of `etc/poudriere.conf`, then of `etc/make.conf`; then
+/// `check_builders`: Builders
 /// 3. `index_tree`: BadPort, Limit, DupName
-/// 4. `find_wanted`, by FLAVOR_DEFAULT_ALL: NoList, Limit of FileBytes, BadList, then NoOrigin, NoFlavor, Gone, MovedLoop
+/// 4. `find_wanted`, by FLAVOR_DEFAULT_ALL: NoList, Limit of FileBytes, BadList, then NoOrigin,
+/// NoFlavor, Gone, MovedLoop
 /// 5. `make_plan`, by PRIORITY_BOOST: NoDepend, MovedDepend, Limit, Loop, BadPort, BadDist
 ///
-/// `rooms` is the number of rooms where builders are to be checked against it, which a dry run does not. TreeFault only where
-/// the tree's count of faults rose, at the step whose call failed; NoMemory for want of memory alone. The tree stays as it is.
+/// `rooms` is the number of rooms where builders are to be checked against it, which a dry run does
+/// not. TreeFault only where the tree's count of faults rose, at the step whose call failed;
+/// NoMemory for want of memory alone. The tree stays as it is.
 #[tactic(auto, unfolding(crate::specs::Planned::planned))]
 pub fn plan_run<T: Tree>(
     alloc: Global,
@@ -108,7 +114,8 @@ pub fn plan_run<T: Tree>(
     rooms: Option<u64>,
 ) -> Result<Planned, Answer>
     // the answer, over a tree that tells
-    ensures told { IsTrue T.tells → Tells (specs.planned words.now (T.content tree.old) rooms) result }
+    ensures told { IsTrue T.tells → Tells
+        (specs.planned words.now (T.content tree.old) rooms) result }
     // over every tree: the plan is over the index, and no answer of another command comes
     ensures over { IfOk result (λ planned. IsOver planned.index planned.wanted planned.plan) }
     ensures reading { IsOfReading result }

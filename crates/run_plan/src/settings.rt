@@ -31,7 +31,8 @@ const MOST_BYTES: u64 = 65_537;
 // What a poudriere.conf with these bytes says.
 fn conf_in(alloc: Global, path: &Path, bytes: &[u8]) -> Result<Conf, Answer>
     requires { path.now ≡ settings.conf_path }
-    ensures told { Tells (refused_as (told.conf_answer settings.conf_path) (conf_of bytes.now)) result }
+    ensures told { Tells
+        (refused_as (told.conf_answer settings.conf_path) (conf_of bytes.now)) result }
     ensures reading { IsOfReading result }
     ensures quiet { err_is blames_tree result ≡ false }
 {
@@ -44,7 +45,8 @@ fn conf_in(alloc: Global, path: &Path, bytes: &[u8]) -> Result<Conf, Answer>
 // What a make.conf with these bytes says.
 fn make_in(alloc: Global, path: &Path, bytes: &[u8]) -> Result<MakeConf, Answer>
     requires { path.now ≡ settings.make_path }
-    ensures told { Tells (refused_as (told.conf_answer settings.make_path) (make_of bytes.now)) result }
+    ensures told { Tells
+        (refused_as (told.conf_answer settings.make_path) (make_of bytes.now)) result }
     ensures reading { IsOfReading result }
     ensures quiet { err_is blames_tree result ≡ false }
 {
@@ -84,12 +86,13 @@ fn make_at<T: Tree>(alloc: Global, tree: &mut T) -> Result<MakeConf, Answer>
     }
 }
 
-/// The settings of a tree: the second step of a run (the comments of poudriere.conf; Porter's Handbook, "make.conf";
-/// docs/FORMATS.md, "Settings").
+/// The settings of a tree: the second step of a run (the comments of poudriere.conf; Porter's
+/// Handbook, "make.conf"; docs/FORMATS.md, "poudriere.conf", "Variable files").
 ///
-/// First `etc/poudriere.conf` is read, then `etc/make.conf`; either may be absent, and then sets nothing. BadConf exactly at the
-/// first line of the first file that is outside its form; TreeFault where the tree failed; NoMemory for want of memory alone.
-/// At most 65,537 bytes of each file are read. The tree stays as it is.
+/// First `etc/poudriere.conf` is read, then `etc/make.conf`; either may be absent, and then sets
+/// nothing. BadConf exactly at the first line of the first file that is outside its form; TreeFault
+/// where the tree failed; NoMemory for want of memory alone. At most 65,537 bytes of each file are
+/// read. The tree stays as it is.
 #[tactic(auto, unfolding(crate::specs::Settings::settings_step))]
 pub fn read_settings<T: Tree>(alloc: Global, tree: &mut T) -> Result<Settings, Answer>
     ensures told { IsTrue T.tells → Tells (settings.settings_step (T.content tree.old)) result }

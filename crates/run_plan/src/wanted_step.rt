@@ -60,7 +60,8 @@ fn list_in<T: Tree>(
 ) -> Result<Vec<u8>, Answer>
     requires same { path.now ≡ word.now }
     requires form { is_path word.now ≡ true }
-    ensures told { IsTrue T.tells → Tells (steps.list_at (T.content tree.old) word.now) (mapped (λ list. list.items) result) }
+    ensures told { IsTrue T.tells → Tells (steps.list_at (T.content tree.old) word.now) (mapped
+        (λ list. list.items) result) }
     ensures few { IfOk result (λ list. length list.items ≤ most FileBytes) }
     ensures reading { IsOfReading result }
     ensures same { T.content tree.new ≡ T.content tree.old }
@@ -75,7 +76,8 @@ fn list_in<T: Tree>(
 
 // The list of the word behind `-f`.
 fn list_at<T: Tree>(alloc: Global, tree: &mut T, word: &Text) -> Result<Vec<u8>, Answer>
-    ensures told { IsTrue T.tells → Tells (steps.list_at (T.content tree.old) word.now) (mapped (λ list. list.items) result) }
+    ensures told { IsTrue T.tells → Tells (steps.list_at (T.content tree.old) word.now) (mapped
+        (λ list. list.items) result) }
     ensures few { IfOk result (λ list. length list.items ≤ most FileBytes) }
     ensures reading { IsOfReading result }
     ensures same { T.content tree.new ≡ T.content tree.old }
@@ -99,8 +101,10 @@ fn wanted_with(
 ) -> Result<Wanted, Answer>
     requires path { path.now ≡ unwrap_or ports.now.list [] }
     requires few { IfSome list (λ bytes. length bytes.now ≤ most FileBytes) }
-    ensures told { Tells (steps.wanted_with index.now ports.now every_flavor (option_copied list.entry)) result }
-    ensures within { IfOk result (λ wanted. AllByRecursion (λ n. n < length index.now.nodes) wanted.nodes) }
+    ensures told { Tells
+        (steps.wanted_with index.now ports.now every_flavor (option_copied list.entry)) result }
+    ensures within { IfOk result (λ wanted. AllByRecursion
+        (λ n. n < length index.now.nodes) wanted.nodes) }
     ensures order { IfOk result (λ wanted. IsStrictlySortedBy nat_cmp wanted.nodes) }
     ensures reading { IsOfReading result }
     ensures quiet { err_is blames_tree result ≡ false }
@@ -112,13 +116,15 @@ fn wanted_with(
     }
 }
 
-/// The nodes that a command's list and then its words want, or all nodes: the fourth step of a run (poudriere-bulk(8), "-a"
-/// and "-f"; docs/FORMATS.md, "Wanted ports"). Under `every_flavor` an origin means all its nodes.
+/// The nodes that a command's list and then its words want, or all nodes: the fourth step of a run
+/// (poudriere-bulk(8), "-a" and "-f"; docs/FORMATS.md, "Wanted ports"). Under `every_flavor` an
+/// origin means all its nodes.
 ///
-/// NoList exactly where the word behind `-f` is no path, or the tree has no such file; Limit of FileBytes where that has more
-/// than 4,194,304 bytes; BadList at its first line that is no text; then NoOrigin, NoFlavor, Gone or MovedLoop of the first
-/// refused word, the list's before the command's. TreeFault where the tree failed; NoMemory for want of memory alone. The
-/// cost is that of `wanted` of origin_flavor. The tree stays as it is.
+/// NoList exactly where the word behind `-f` is no path, or the tree has no such file; Limit of
+/// FileBytes where that has more than 4,194,304 bytes; BadList at its first line that is no text;
+/// then NoOrigin, NoFlavor, Gone or MovedLoop of the first refused word, the list's before the
+/// command's. TreeFault where the tree failed; NoMemory for want of memory alone. The cost is that
+/// of `wanted` of origin_flavor. The tree stays as it is.
 #[tactic(auto, unfolding(crate::specs::Steps::wanted_step))]
 pub fn find_wanted<T: Tree>(
     alloc: Global,
@@ -127,8 +133,10 @@ pub fn find_wanted<T: Tree>(
     ports: &PortWords,
     every_flavor: bool,
 ) -> Result<Wanted, Answer>
-    ensures told { IsTrue T.tells → Tells (steps.wanted_step index.now ports.now every_flavor (T.content tree.old)) result }
-    ensures within { IfOk result (λ wanted. AllByRecursion (λ n. n < length index.now.nodes) wanted.nodes) }
+    ensures told { IsTrue T.tells → Tells
+        (steps.wanted_step index.now ports.now every_flavor (T.content tree.old)) result }
+    ensures within { IfOk result (λ wanted. AllByRecursion
+        (λ n. n < length index.now.nodes) wanted.nodes) }
     ensures order { IfOk result (λ wanted. IsStrictlySortedBy nat_cmp wanted.nodes) }
     ensures reading { IsOfReading result }
     ensures same { T.content tree.new ≡ T.content tree.old }

@@ -10,10 +10,11 @@ use command_words::{Asked, BulkWords, read_words};
 use run_answer::Answer;
 use std::alloc::Global;
 
-/// What the words of `bulk` ask for: the first step of a run (poudriere-bulk(8); docs/FORMATS.md, "The words of a command").
+/// What the words of `bulk` ask for: the first step of a run (poudriere-bulk(8); docs/FORMATS.md,
+/// "The words of a command").
 ///
-/// Usage exactly where they are not well-formed words of `bulk`: those of another command are not. NoMemory for want of memory
-/// alone. The cost is that of `read_words` of command_words.
+/// Usage exactly where they are not well-formed words of `bulk`: those of another command are not.
+/// NoMemory for want of memory alone. The cost is that of `read_words` of command_words.
 pub fn read_bulk(alloc: Global, words: &[Text]) -> Result<BulkWords, Answer>
     ensures told { Tells (words_step words.now) result }
     ensures reading { IsOfReading result }
