@@ -1,0 +1,6 @@
+pub mod PathLists
+pub mod Turning
+pub mod FileLists
+pub mod Entries
+pub mod Merging
+pub mod Lists

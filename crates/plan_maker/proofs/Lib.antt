@@ -1,0 +1,12 @@
+pub mod Matching
+pub mod BaseNames
+pub mod Losing
+pub mod Collecting
+pub mod Placing
+pub mod Leading
+pub mod EdgeNumbers
+pub mod JobForm
+pub mod Causing
+pub mod Listing
+pub mod Marking
+pub mod Planned

@@ -1,0 +1,12 @@
+pub mod Nodes
+pub mod Needed
+pub mod Lost
+pub mod PlanEdges
+pub mod Edges
+pub mod Boosts
+pub mod Jobs
+pub mod Plans
+pub mod Over
+pub mod Recipes
+pub mod TreeJobs
+pub mod Outlines

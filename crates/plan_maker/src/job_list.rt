@@ -1,0 +1,11 @@
+// The jobs that were made so far.
+use bulk_model::Jobs;
+
+/// The jobs that were made so far, and how many bytes of files they have.
+#[derive(Drop)]
+pub(crate) struct JobList {
+    /// One job for each node so far.
+    pub(crate) jobs: Jobs,
+    /// How many bytes were counted.
+    pub(crate) bytes: u64,
+}
