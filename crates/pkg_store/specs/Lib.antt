@@ -1,0 +1,5 @@
+pub mod Loaded
+pub mod Loading
+pub mod Faults
+pub mod Changing
+pub mod Reading

@@ -1,0 +1,12 @@
+pub mod Passes
+pub mod Keying
+pub mod Naming
+pub mod Holding
+pub mod Noting
+pub mod Losing
+pub mod Flagging
+pub mod Comparing
+pub mod Prefixes
+pub mod Filing
+pub mod Marking
+pub mod Reasons

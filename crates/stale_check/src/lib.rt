@@ -1,0 +1,17 @@
+//! Which files of a store go, and why: packages that no longer fit the tree, and those that recorded them.
+#![tactic(auto)]
+
+mod changes;
+mod checking;
+mod files;
+mod holder;
+mod holders;
+mod law;
+mod lost;
+mod marks;
+mod numbering;
+mod own;
+mod reading;
+
+pub use checking::{ask_for_all, held, stale};
+pub use law::{fresh_is_closed, fresh_is_greatest, greatest_is_fresh};
