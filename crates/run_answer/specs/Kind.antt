@@ -3,7 +3,8 @@ use Rattle.std.specs.Prelude.{ℕ, Bool, true, false}
 use Rattle.run_answer.specs.declared.answer.Answer.{Answer}
 use Rattle.run_answer.specs.declared.answer.Answer.TheVariants.{Done, Usage, Builders, BadConf, BadPort, DupName, Limit, NoList, BadList, NoOrigin, NoFlavor, Gone, MovedLoop, NoDepend, MovedDepend, Loop, BadDist, BadCurrent, TreeFault, StoreFault, DistFault, SiteFault, RoomFault, SinkFault, NoMemory}
 
--- the lists were printed; words, tree or store refuse; the site refuses; an object failed; memory was refused
+-- the lists were printed; words, tree or store refuse; the site refuses; an object failed; memory
+-- was refused
 pub data Kind : Type 0 where
   printed : Kind
   refused : Kind

@@ -1,4 +1,5 @@
--- What is printed of a fault in a file of the tree or in a distfile, and of a limit (docs/FORMATS.md, "Refusals").
+-- What is printed of a fault in a file of the tree or in a distfile, and of a limit
+-- (docs/FORMATS.md, "Refusals").
 use Rattle.std.specs.Prelude.{ℕ, List, [], ◌∷◌, ◌++◌, codes}
 use Rattle.std.specs.List.{flat_map}
 use Rattle.port_vars.specs.declared.fault.LineKind.{LineKind}

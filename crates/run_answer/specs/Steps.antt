@@ -6,7 +6,8 @@ use Rattle.run_answer.specs.declared.answer.Answer.{Answer}
 use Rattle.run_answer.specs.declared.answer.Answer.TheVariants.{TreeFault, StoreFault, NoMemory}
 use Rattle.run_answer.specs.Kind.{is_refusal, is_of_reading}
 
--- a step gives just the value that it has to give, and a refusal only where that one has to be given
+-- a step gives just the value that it has to give, and a refusal only where that one has to be
+-- given
 abbrev pub Tells : {X : Type 0} → Result X Answer → Result X Answer → Type 0
 Tells due (Ok x) = due ≡ Ok x
 Tells due (Err answer) = is_refusal answer ≡ true → due ≡ Err answer

@@ -9,8 +9,8 @@ use dist_files::DistWhy;
 use std::alloc::AllocError;
 use tree_index::PortKind;
 
-/// How a run ended (docs/FORMATS.md, "Refusals"). No command answers all of them: `bulk` answers neither DistFault nor
-/// SiteFault nor BadCurrent.
+/// How a run ended (docs/FORMATS.md, "Refusals"). No command answers all of them: `bulk` answers
+/// neither DistFault nor SiteFault nor BadCurrent.
 #[derive(Debug, Drop)]
 pub enum Answer {
     /// The lists were printed.

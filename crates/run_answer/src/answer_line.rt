@@ -24,64 +24,74 @@ fn file_line(alloc: Global, path: &Text, line: u32, text: &str) -> Result<String
 }
 
 fn builders_line(alloc: Global, asked: u64, had: u64) -> Result<String, NoMemory>
-    ensures { IfOk result (λ said. string_bytes said ≡ lines.answer_line [] (Answer.Builders asked had)) }
+    ensures { IfOk result (λ said. string_bytes said
+        ≡ lines.answer_line [] (Answer.Builders asked had)) }
 {
     Ok(format!(in alloc; "poudriere: {asked} builders asked, {had} rooms\n")?)
 }
 
 fn limit_line(alloc: Global, which: Which, count: u64) -> Result<String, NoMemory>
-    ensures { IfOk result (λ said. string_bytes said ≡ lines.answer_line [] (Answer.Limit which count)) }
+    ensures { IfOk result (λ said. string_bytes said
+        ≡ lines.answer_line [] (Answer.Limit which count)) }
 {
     let name = limit_name(which);
     Ok(format!(in alloc; "poudriere: limit {name}: {count}\n")?)
 }
 
 fn same_name_line(alloc: Global, a: &Text, b: &Text, name: &Text) -> Result<String, NoMemory>
-    ensures { IfOk result (λ said. string_bytes said ≡ lines.answer_line [] (Answer.DupName a.now b.now name.now)) }
+    ensures { IfOk result (λ said. string_bytes said
+        ≡ lines.answer_line [] (Answer.DupName a.now b.now name.now)) }
 {
     Ok(format!(in alloc; "poudriere: {a} and {b} are both {name}\n")?)
 }
 
 fn bad_list_line(alloc: Global, path: &Text, line: u32) -> Result<String, NoMemory>
-    ensures { IfOk result (λ said. string_bytes said ≡ lines.answer_line [] (Answer.BadList path.now line)) }
+    ensures { IfOk result (λ said. string_bytes said
+        ≡ lines.answer_line [] (Answer.BadList path.now line)) }
 {
     Ok(format!(in alloc; "poudriere: bad list {path}:{line}\n")?)
 }
 
 fn gone_line(alloc: Global, word: &Text, reason: &Text) -> Result<String, NoMemory>
-    ensures { IfOk result (λ said. string_bytes said ≡ lines.answer_line [] (Answer.Gone word.now reason.now)) }
+    ensures { IfOk result (λ said. string_bytes said
+        ≡ lines.answer_line [] (Answer.Gone word.now reason.now)) }
 {
     Ok(format!(in alloc; "poudriere: {word} was removed: {reason}\n")?)
 }
 
 fn circle_line(alloc: Global, origins: &[Text]) -> Result<String, NoMemory>
-    ensures { IfOk result (λ said. string_bytes said ≡ lines.answer_line [] (Answer.MovedLoop origins.now)) }
+    ensures { IfOk result (λ said. string_bytes said
+        ≡ lines.answer_line [] (Answer.MovedLoop origins.now)) }
 {
     let names = spaced(alloc, origins)?;
     Ok(format!(in alloc; "poudriere: MOVED comes back:{names}\n")?)
 }
 
 fn absent_depend_line(alloc: Global, port: &Text, origin: &Text) -> Result<String, NoMemory>
-    ensures { IfOk result (λ said. string_bytes said ≡ lines.answer_line [] (Answer.NoDepend port.now origin.now)) }
+    ensures { IfOk result (λ said. string_bytes said
+        ≡ lines.answer_line [] (Answer.NoDepend port.now origin.now)) }
 {
     Ok(format!(in alloc; "poudriere: {port} depends on {origin}, which is not there\n")?)
 }
 
 fn moved_depend_line(alloc: Global, port: &Text, old: &Text, new: &Text) -> Result<String, NoMemory>
-    ensures { IfOk result (λ said. string_bytes said ≡ lines.answer_line [] (Answer.MovedDepend port.now old.now new.now)) }
+    ensures { IfOk result (λ said. string_bytes said
+        ≡ lines.answer_line [] (Answer.MovedDepend port.now old.now new.now)) }
 {
     Ok(format!(in alloc; "poudriere: {port} depends on {old}, which moved to {new}\n")?)
 }
 
 fn loop_line(alloc: Global, ports: &[Text]) -> Result<String, NoMemory>
-    ensures { IfOk result (λ said. string_bytes said ≡ lines.answer_line [] (Answer.Loop ports.now)) }
+    ensures { IfOk result (λ said. string_bytes said
+        ≡ lines.answer_line [] (Answer.Loop ports.now)) }
 {
     let names = spaced(alloc, ports)?;
     Ok(format!(in alloc; "poudriere: dependency loop:{names}\n")?)
 }
 
 fn dist_line(alloc: Global, port: &Text, file: &Path, differs: &str) -> Result<String, NoMemory>
-    ensures { IfOk result (λ said. string_bytes said ≡ lines.dist_line port.now file.now differs.now) }
+    ensures { IfOk result (λ said. string_bytes said
+        ≡ lines.dist_line port.now file.now differs.now) }
 {
     Ok(format!(in alloc; "poudriere: {port}: distfile {file}: {differs}\n")?)
 }
@@ -124,8 +134,9 @@ fn text(alloc: Global, answer: &Answer, usage: &str) -> Result<String, NoMemory>
     }
 }
 
-/// The one line that is printed of an answer, with its line feed; nothing for Done, whose lists are printed instead. `usage`
-/// is the usage line of the command, without a line feed. Takes time in the line's bytes. Source: docs/FORMATS.md, "Refusals".
+/// The one line that is printed of an answer, with its line feed; nothing for Done, whose lists are
+/// printed instead. `usage` is the usage line of the command, without a line feed. Takes time in
+/// the line's bytes. Source: docs/FORMATS.md, "Refusals".
 pub fn write_line(alloc: Global, answer: &Answer, usage: &str) -> Result<Vec<u8>, NoMemory>
     ensures { IfOk result (λ bytes. bytes.items ≡ lines.answer_line usage.now answer.now) }
 {

@@ -6,8 +6,8 @@ use crate::answer::Answer;
 
 /// How a run ended, and what comes back from it.
 pub struct Finished<S, R> {
-    /// The process's exit status: 0, or 1 where a port failed or was skipped; 2 for a refusal, 3 for a fault, 4 for
-    /// want of memory.
+    /// The process's exit status: 0, or 1 where a port failed or was skipped; 2 for a refusal, 3
+    /// for a fault, 4 for want of memory.
     pub status: u8,
     /// How the run ended.
     pub answer: Answer,
@@ -26,8 +26,8 @@ pub struct Closed {
     pub answer: Answer,
 }
 
-/// The exit status of an answer: 2 for a refusal, 3 for a fault, 4 for want of memory. Of a run that is Done, 0: what was
-/// built and skipped decides whether it is 1 instead. Takes no memory.
+/// The exit status of an answer: 2 for a refusal, 3 for a fault, 4 for want of memory. Of a run
+/// that is Done, 0: what was built and skipped decides whether it is 1 instead. Takes no memory.
 pub fn exit_status(answer: &Answer) -> u8
     ensures { result ≡ answer_status answer.now }
 {

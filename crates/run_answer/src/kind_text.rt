@@ -56,7 +56,8 @@ fn spaced_or_none(alloc: Global, names: &[Text]) -> Result<String, NoMemory>
 }
 
 fn group_text(alloc: Global, group: &Text, on: &[Text]) -> Result<String, NoMemory>
-    ensures { IfOk result (λ text. string_bytes text ≡ texts.port_text (PortKind.Group group.now on.now)) }
+    ensures { IfOk result (λ text. string_bytes text
+        ≡ texts.port_text (PortKind.Group group.now on.now)) }
 {
     let members = spaced_or_none(alloc, on)?;
     Ok(format!(in alloc; "option group {group}:{members}")?)

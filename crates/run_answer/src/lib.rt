@@ -1,4 +1,5 @@
-//! How a run ends: its answer, the one line that is printed of a refusal or a fault, and the exit status.
+//! How a run ends: its answer, the one line that is printed of a refusal or a fault, and the exit
+//! status.
 #![tactic(auto)]
 
 mod answer;

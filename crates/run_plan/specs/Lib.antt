@@ -1,0 +1,5 @@
+pub mod Told
+pub mod Words
+pub mod Settings
+pub mod Steps
+pub mod Planned
