@@ -1,7 +1,7 @@
 // The plan of the nodes that a run wants.
 ghost use Rattle.std.specs.Prelude.{◌≡◌, IsTrue, IfOk};
 ghost use Rattle.outside.specs.Faults.{IsCaused, err_is};
-ghost use Rattle.plan_maker.specs.Laws.{AreNodes};
+ghost use Rattle.plan_maker.specs.Nodes.{AreNodes};
 ghost use Rattle.plan_maker.specs.Over.{IsOver};
 ghost use Rattle.run_answer.specs.Kind.{blames_tree};
 ghost use Rattle.run_answer.specs.Steps.{IsOfReading, Tells};
