@@ -1,4 +1,7 @@
 // Plans.
+ghost use Rattle.std.specs.Prelude.{◌<◌, length};
+ghost use Rattle.std.specs.List.{AllByRecursion};
+
 use crate::refusals::push_refusal;
 use crate::trees::{index_of, numbers_of, tree_of};
 use bulk_base::{Files, Text};
@@ -106,16 +109,19 @@ fn push_plan(alloc: Global, plan: &Plan, out: &mut Vec<u8>) -> Result<(), AllocE
     push_files(alloc, &plan.base, out)
 }
 
+/// Puts what came of a plan at the end; behind it, how often the tree failed, if it did.
 fn push_found(
     alloc: Global,
     found: &Result<Plan, PlanError>,
-    faults: u64,
     out: &mut Vec<u8>,
 ) -> Result<(), AllocError> {
     match found {
-        Ok(plan) => push_plan(alloc, plan, out)?,
-        Err(refusal) => push_refusal(alloc, refusal, out)?,
+        Ok(plan) => push_plan(alloc, plan, out),
+        Err(refusal) => push_refusal(alloc, refusal, out),
     }
+}
+
+fn push_faults(alloc: Global, faults: u64, out: &mut Vec<u8>) -> Result<(), AllocError> {
     if faults == 0 {
         return Ok(());
     }
@@ -123,6 +129,22 @@ fn push_found(
     push_number(alloc, out, faults)
 }
 
+/// The plan of nodes.
+fn answer_nodes(
+    alloc: Global,
+    tree: &mut MemTree,
+    index: &Index,
+    wanted: &Numbers,
+    boost: &Text,
+    out: &mut Vec<u8>,
+) -> Result<(), AllocError>
+    requires { AllByRecursion (λ n. n < length index.now.nodes) wanted.now }
+{
+    let found = plan(alloc, tree, index, wanted, boost);
+    push_found(alloc, &found, out)
+}
+
+/// The plan of the nodes that a field names.
 fn answer_over(
     alloc: Global,
     tree: &mut MemTree,
@@ -130,10 +152,37 @@ fn answer_over(
     [wanted, boost]: [&str; 2],
     out: &mut Vec<u8>,
 ) -> Result<(), CaseError> {
-    let wanted = numbers_of(alloc, index, wanted)?;
     let boost = text_of(alloc, boost)?;
-    let found = plan(alloc, tree, index, &wanted, &boost);
-    Ok(push_found(alloc, &found, tree.faults(), out)?)
+    let wanted = numbers_of(alloc, index, wanted)?;
+    answer_nodes(alloc, tree, index, &wanted, &boost, out)?;
+    Ok(push_faults(alloc, tree.faults(), out)?)
+}
+
+/// The same over a tree of which some calls fail.
+fn answer_failing(
+    alloc: Global,
+    files: &str,
+    index: &Index,
+    [wanted, boost, fails]: [&str; 3],
+    out: &mut Vec<u8>,
+) -> Result<(), CaseError> {
+    let mut tree = tree_of(alloc, files, fails)?;
+    answer_over(alloc, &mut tree, index, [wanted, boost], out)
+}
+
+fn answer_in(
+    alloc: Global,
+    tree: &mut MemTree,
+    files: &str,
+    [wanted, boost, fails]: [&str; 3],
+    out: &mut Vec<u8>,
+) -> Result<(), CaseError> {
+    let index = index_of(alloc, tree)?;
+    if fails.is_empty() {
+        answer_over(alloc, tree, &index, [wanted, boost], out)
+    } else {
+        answer_failing(alloc, files, &index, [wanted, boost, fails], out)
+    }
 }
 
 /// The plan of the nodes that a field names, with the words of PRIORITY_BOOST and the calls that fail, or its refusal; behind it,
@@ -141,14 +190,9 @@ fn answer_over(
 pub(crate) fn answer_plan(
     alloc: Global,
     files: &str,
-    [wanted, boost, fails]: [&str; 3],
+    fields: [&str; 3],
     out: &mut Vec<u8>,
 ) -> Result<(), CaseError> {
     let mut tree = tree_of(alloc, files, "")?;
-    let index = index_of(alloc, &mut tree)?;
-    if fails.is_empty() {
-        return answer_over(alloc, &mut tree, &index, [wanted, boost], out);
-    }
-    let mut failing = tree_of(alloc, files, fails)?;
-    answer_over(alloc, &mut failing, &index, [wanted, boost], out)
+    answer_in(alloc, &mut tree, files, fields, out)
 }

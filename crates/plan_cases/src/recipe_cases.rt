@@ -1,12 +1,30 @@
 // Recipes.
+ghost use Rattle.std.specs.Prelude.{◌<◌, length};
+ghost use Rattle.std.specs.List.{AllByRecursion};
+
 use crate::trees::{index_of, numbers_of, tree_of};
 use bulk_base::Text;
-use bulk_model::{Digest, Plan, Recipes};
+use bulk_model::{Digest, Numbers, Plan, Recipes};
 use case_text::{CaseError, push_str, push_text};
 use outside::{MemTree, Outer};
-use plan_maker::{PlanError, plan, recipes};
+use plan_maker::{plan, recipes};
 use std::alloc::{AllocError, Global};
 use tree_index::Index;
+
+fn planned(
+    alloc: Global,
+    tree: &mut MemTree,
+    index: &Index,
+    wanted: &Numbers,
+) -> Result<Plan, CaseError>
+    requires { AllByRecursion (λ n. n < length index.now.nodes) wanted.now }
+{
+    let boost = Text::literal(alloc, b"")?;
+    match plan(alloc, tree, index, wanted, &boost) {
+        Ok(plan) => Ok(plan),
+        Err(_) => Err(CaseError::Unfit),
+    }
+}
 
 /// The plan of nodes over a tree of which no call fails.
 fn plan_of(
@@ -16,12 +34,7 @@ fn plan_of(
     field: &str,
 ) -> Result<Plan, CaseError> {
     let wanted = numbers_of(alloc, index, field)?;
-    let boost = Text::literal(alloc, b"")?;
-    match plan(alloc, tree, index, &wanted, &boost) {
-        Ok(plan) => Ok(plan),
-        Err(PlanError::NoMemory) => Err(CaseError::NoMemory),
-        Err(_) => Err(CaseError::Unfit),
-    }
+    planned(alloc, tree, index, &wanted)
 }
 
 fn push_digest(
@@ -66,19 +79,78 @@ fn push_answer(
     }
 }
 
+/// The recipes of nodes over a tree.
+fn answer_nodes(
+    alloc: Global,
+    tree: &mut MemTree,
+    index: &Index,
+    plan: &Plan,
+    nodes: &Numbers,
+    out: &mut Vec<u8>,
+) -> Result<(), AllocError>
+    requires { AllByRecursion (λ n. n < length index.now.nodes) nodes.now }
+{
+    let found = recipes(alloc, tree, index, plan, nodes);
+    push_answer(alloc, index, &found, out)
+}
+
+/// The recipes of the nodes that a field names over a tree.
+fn answer_over(
+    alloc: Global,
+    tree: &mut MemTree,
+    index: &Index,
+    plan: &Plan,
+    nodes: &str,
+    out: &mut Vec<u8>,
+) -> Result<(), CaseError> {
+    let nodes = numbers_of(alloc, index, nodes)?;
+    Ok(answer_nodes(alloc, tree, index, plan, &nodes, out)?)
+}
+
+/// The same over a tree of which some calls fail.
+fn answer_failing(
+    alloc: Global,
+    files: &str,
+    index: &Index,
+    plan: &Plan,
+    [nodes, fails]: [&str; 2],
+    out: &mut Vec<u8>,
+) -> Result<(), CaseError> {
+    let mut tree = tree_of(alloc, files, fails)?;
+    answer_over(alloc, &mut tree, index, plan, nodes, out)
+}
+
+fn answer_planned(
+    alloc: Global,
+    tree: &mut MemTree,
+    files: &str,
+    index: &Index,
+    [wanted, nodes, fails]: [&str; 3],
+    out: &mut Vec<u8>,
+) -> Result<(), CaseError> {
+    let plan = plan_of(alloc, tree, index, wanted)?;
+    answer_failing(alloc, files, index, &plan, [nodes, fails], out)
+}
+
+fn answer_in(
+    alloc: Global,
+    tree: &mut MemTree,
+    files: &str,
+    fields: [&str; 3],
+    out: &mut Vec<u8>,
+) -> Result<(), CaseError> {
+    let index = index_of(alloc, tree)?;
+    answer_planned(alloc, tree, files, &index, fields, out)
+}
+
 /// The recipes of the nodes that a field names over the base root of the plan of others, with the calls that fail: each node of
 /// the tree, with its recipe's digest or `-`.
 pub(crate) fn answer_recipes(
     alloc: Global,
     files: &str,
-    [wanted, nodes, fails]: [&str; 3],
+    fields: [&str; 3],
     out: &mut Vec<u8>,
 ) -> Result<(), CaseError> {
     let mut tree = tree_of(alloc, files, "")?;
-    let index = index_of(alloc, &mut tree)?;
-    let plan = plan_of(alloc, &mut tree, &index, wanted)?;
-    let nodes = numbers_of(alloc, &index, nodes)?;
-    let mut failing = tree_of(alloc, files, fails)?;
-    let found = recipes(alloc, &mut failing, &index, &plan, &nodes);
-    Ok(push_answer(alloc, &index, &found, out)?)
+    answer_in(alloc, &mut tree, files, fields, out)
 }

@@ -2,10 +2,11 @@
 ghost use Rattle.std.specs.Prelude.{◌<◌, length, IfOk};
 ghost use Rattle.std.specs.List.{AllByRecursion};
 
-use bulk_base::{Sequence, Text};
+use bulk_base::Text;
 use bulk_model::Numbers;
 use case_text::{CaseError, fails_of, files_of, words_of};
 use conf_file::{ConfError, MakeConf, read_make};
+use origin_flavor::{WantedError, wanted};
 use outside::{MemError, MemTree};
 use std::alloc::Global;
 use tree_index::{Index, index};
@@ -36,33 +37,23 @@ pub(crate) fn index_of(alloc: Global, tree: &mut MemTree) -> Result<Index, CaseE
     }
 }
 
-fn push_named(index: &Index, name: &Text, found: &mut Numbers) -> Result<(), CaseError>
-    requires { AllByRecursion (λ n. n < length index.now.nodes) found.old }
-    ensures { IfOk result (λ u. AllByRecursion (λ n. n < length index.now.nodes) found.new) }
+fn wanted_of(alloc: Global, index: &Index, words: &[Text], all: bool) -> Result<Numbers, CaseError>
+    ensures { IfOk result (AllByRecursion (λ n. n < length index.now.nodes)) }
 {
-    let nodes = index.nodes.as_slice();
-    for n in 0..nodes.len() {
-        if &nodes[n].node == name {
-            found.push(n as u32)?;
-            return Ok(());
-        }
+    match wanted(alloc, index, None, words, all, false) {
+        Ok(found) => Ok(found.nodes),
+        Err(WantedError::NoMemory) => Err(CaseError::NoMemory),
+        Err(_) => Err(CaseError::Unfit),
     }
-    Err(CaseError::Unfit)
 }
 
 /// The numbers of the nodes that a field names, or of all nodes, where it is `*`.
 pub(crate) fn numbers_of(alloc: Global, index: &Index, field: &str) -> Result<Numbers, CaseError>
     ensures { IfOk result (AllByRecursion (λ n. n < length index.now.nodes)) }
 {
-    let mut found = Sequence::new(alloc);
     if field == "*" {
-        for n in 0..index.nodes.len() {
-            found.push(n as u32)?;
-        }
-        return Ok(found);
+        return wanted_of(alloc, index, &[], true);
     }
-    for name in words_of(alloc, field)?.as_slice() {
-        push_named(index, name, &mut found)?;
-    }
-    Ok(found)
+    let words = words_of(alloc, field)?;
+    wanted_of(alloc, index, words.as_slice(), false)
 }
