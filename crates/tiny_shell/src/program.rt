@@ -1,15 +1,20 @@
 // The programs that rooms in memory know.
 ghost use Rattle.std.specs.Prelude.{◌≡◌, if◌then◌else◌, IfOk, Some, None};
-ghost use Rattle.tiny_shell.specs.Programs.{mem_runs, written, copied, EndsWith};
+ghost use Rattle.std.specs.List.{list_all};
 ghost use Rattle.std.specs.FinMap.{get};
+ghost use Rattle.tiny_shell.specs.Programs as programs;
+ghost use Rattle.tiny_shell.specs.Programs.{mem_runs, written, copied, all_of, EndsWith};
 ghost use Rattle.bulk_base.specs.Path.{is_path};
 
-use bulk_base::{Bytes, NoMemory, Path, PathError, Paths, Text, number};
+use bulk_base::{Bytes, NoMemory, Path, PathError, Paths, Sequence, Text, number};
 use outside::Folder;
 use std::alloc::{AllocError, Global};
 
 // The status where the arguments are wrong.
 const WRONG: u8 = 2;
+
+// The most bytes that `fill` writes.
+const MOST_FILL: u64 = 1048576;
 
 // The status where there is no such program.
 const NO_SUCH_PROGRAM: u8 = 127;
@@ -40,19 +45,19 @@ fn write(folder: &mut Folder, alloc: Global, path: &Text, bytes: Bytes) -> Resul
 }
 
 fn true_status(arguments: &[Text]) -> u8
-    ensures { result ≡ Rattle.tiny_shell.specs.Programs.true_status arguments.now }
+    ensures { result ≡ programs.true_status arguments.now }
 {
     if arguments.is_empty() { 0 } else { WRONG }
 }
 
 fn false_status(arguments: &[Text]) -> u8
-    ensures { result ≡ Rattle.tiny_shell.specs.Programs.false_status arguments.now }
+    ensures { result ≡ programs.false_status arguments.now }
 {
     if arguments.is_empty() { 1 } else { WRONG }
 }
 
 fn exit_status(arguments: &[Text]) -> u8
-    ensures { result ≡ Rattle.tiny_shell.specs.Programs.exit_status arguments.now }
+    ensures { result ≡ programs.exit_status arguments.now }
 {
     let [status] = arguments else {
         return WRONG;
@@ -65,7 +70,7 @@ fn exit_status(arguments: &[Text]) -> u8
 
 // The words with a space between, and a line feed.
 fn line_of(alloc: Global, first: &Text, rest: &[Text]) -> Result<Bytes, NoMemory>
-    ensures { IfOk result (λ line. line ≡ Rattle.tiny_shell.specs.Programs.line_of first.now rest.now) }
+    ensures { IfOk result (λ line. line ≡ programs.line_of first.now rest.now) }
 {
     let mut line = Vec::from_slice(alloc, first.bytes())?;
     for word in rest {
@@ -77,7 +82,7 @@ fn line_of(alloc: Global, first: &Text, rest: &[Text]) -> Result<Bytes, NoMemory
 }
 
 fn run_put(folder: &mut Folder, alloc: Global, arguments: &[Text]) -> Result<u8, NoMemory>
-    ensures { EndsWith (Rattle.tiny_shell.specs.Programs.run_put arguments.now folder.old) folder.old folder.new result }
+    ensures { EndsWith (programs.run_put arguments.now folder.old) folder.old folder.new result }
 {
     let [path, first, rest @ ..] = arguments else {
         return Ok(WRONG);
@@ -98,7 +103,7 @@ fn copy_file(folder: &mut Folder, alloc: Global, from: &Path, to: &Text) -> Resu
 }
 
 fn run_cp(folder: &mut Folder, alloc: Global, arguments: &[Text]) -> Result<u8, NoMemory>
-    ensures { EndsWith (Rattle.tiny_shell.specs.Programs.run_cp arguments.now folder.old) folder.old folder.new result }
+    ensures { EndsWith (programs.run_cp arguments.now folder.old) folder.old folder.new result }
 {
     let [from, to] = arguments else {
         return Ok(WRONG);
@@ -112,9 +117,97 @@ fn run_cp(folder: &mut Folder, alloc: Global, arguments: &[Text]) -> Result<u8, 
     copy_file(folder, alloc, &from, to)
 }
 
+// The paths that texts spell; None where one spells none.
+fn paths_of(alloc: Global, texts: &[Text]) -> Result<Option<Paths>, NoMemory>
+    ensures { IfOk result (λ paths. paths ≡ (if list_all is_path texts.now then Some texts.now else None)) }
+{
+    let mut paths = Sequence::new(alloc);
+    for text in texts {
+        let Some(path) = path_of(alloc, text)? else {
+            return Ok(None);
+        };
+        paths.push(path)?;
+    }
+    Ok(Some(paths))
+}
+
+// What files hold, one after another; None where one is absent.
+fn contents_of(folder: &Folder, alloc: Global, files: &[Path]) -> Result<Option<Bytes>, NoMemory>
+    ensures { IfOk result (λ bytes. bytes ≡ all_of files.now folder.now) }
+{
+    let mut all = Vec::new(alloc);
+    for file in files {
+        let Some(bytes) = folder.get(file) else {
+            return Ok(None);
+        };
+        all.extend_from_slice(bytes.as_slice())?;
+    }
+    Ok(Some(Bytes::from_vec(all)))
+}
+
+fn run_cat(folder: &mut Folder, alloc: Global, arguments: &[Text]) -> Result<u8, NoMemory>
+    ensures { EndsWith (programs.run_cat arguments.now folder.old) folder.old folder.new result }
+{
+    let [to, _, ..] = arguments else {
+        return Ok(WRONG);
+    };
+    if path_of(alloc, to)?.is_none() {
+        return Ok(WRONG);
+    }
+    let Some(files) = paths_of(alloc, &arguments[1..])? else {
+        return Ok(WRONG);
+    };
+    let Some(bytes) = contents_of(folder, alloc, files.as_slice())? else {
+        return Ok(1);
+    };
+    write(folder, alloc, to, bytes)
+}
+
+fn test_status(folder: &Folder, alloc: Global, arguments: &[Text]) -> Result<u8, NoMemory>
+    ensures { IfOk result (λ status. status ≡ programs.test_status arguments.now folder.now) }
+{
+    let [path] = arguments else {
+        return Ok(WRONG);
+    };
+    let Some(path) = path_of(alloc, path)? else {
+        return Ok(WRONG);
+    };
+    Ok(if folder.get(&path).is_some() { 0 } else { 1 })
+}
+
+fn run_rm(folder: &mut Folder, alloc: Global, arguments: &[Text]) -> Result<u8, NoMemory>
+    ensures { EndsWith (programs.run_rm arguments.now folder.old) folder.old folder.new result }
+{
+    let [path] = arguments else {
+        return Ok(WRONG);
+    };
+    let Some(path) = path_of(alloc, path)? else {
+        return Ok(WRONG);
+    };
+    if folder.get(&path).is_none() {
+        return Ok(1);
+    }
+    folder.remove(&path);
+    Ok(0)
+}
+
+fn run_fill(folder: &mut Folder, alloc: Global, arguments: &[Text]) -> Result<u8, NoMemory>
+    ensures { EndsWith (programs.run_fill arguments.now folder.old) folder.old folder.new result }
+{
+    let [path, count] = arguments else {
+        return Ok(WRONG);
+    };
+    let count = match number(count) {
+        Some(count) if count <= MOST_FILL => count as usize,
+        _ => return Ok(WRONG),
+    };
+    let bytes = vec![in alloc; b'x'; count]?;
+    write(folder, alloc, path, Bytes::from_vec(bytes))
+}
+
 // Paths, each with a line feed.
 fn listed(alloc: Global, paths: &Paths) -> Result<Bytes, NoMemory>
-    ensures { IfOk result (λ list. list ≡ Rattle.tiny_shell.specs.Programs.listed paths.now) }
+    ensures { IfOk result (λ list. list ≡ programs.listed paths.now) }
 {
     let mut list = Vec::new(alloc);
     for path in paths.as_slice() {
@@ -125,7 +218,7 @@ fn listed(alloc: Global, paths: &Paths) -> Result<Bytes, NoMemory>
 }
 
 fn run_list(folder: &mut Folder, alloc: Global, arguments: &[Text]) -> Result<u8, NoMemory>
-    ensures { EndsWith (Rattle.tiny_shell.specs.Programs.run_list arguments.now folder.old) folder.old folder.new result }
+    ensures { EndsWith (programs.run_list arguments.now folder.old) folder.old folder.new result }
 {
     let [to, below] = arguments else {
         return Ok(WRONG);
@@ -154,6 +247,14 @@ pub(crate) fn run(folder: &mut Folder, alloc: Global, words: &[Text]) -> Result<
         run_put(folder, alloc, arguments)
     } else if program.is(b"cp".as_slice()) {
         run_cp(folder, alloc, arguments)
+    } else if program.is(b"cat".as_slice()) {
+        run_cat(folder, alloc, arguments)
+    } else if program.is(b"test".as_slice()) {
+        test_status(folder, alloc, arguments)
+    } else if program.is(b"rm".as_slice()) {
+        run_rm(folder, alloc, arguments)
+    } else if program.is(b"fill".as_slice()) {
+        run_fill(folder, alloc, arguments)
     } else if program.is(b"list".as_slice()) {
         run_list(folder, alloc, arguments)
     } else {
