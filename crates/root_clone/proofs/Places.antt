@@ -47,28 +47,6 @@ outside_is_free w x b n h =
     (λ e. within (above_is_within w b x n e))
     (λ e. below (ap (is_below w) (below_is_joined (joined w x) b e ∙ below_twice w x (drop (length (joined w x) + 1) b)) ∙ is_below-joined w (x ++ 47 ∷ drop (length (joined w x) + 1) b)))
 
--- ---- paths below one folder
-
-same_byte : (c : ℕ) → nat_eq c c ≡ true
-same_byte c = grind (arith, nat_tests)
-
-bytes_eq-front : (w a b : List ℕ) → bytes_eq (w ++ a) (w ++ b) ≡ bytes_eq a b
-bytes_eq-front [] a b = refl
-bytes_eq-front (c ∷ w) a b = ap (λ t. t && bytes_eq (w ++ a) (w ++ b)) (same_byte c) ∙ bytes_eq-front w a b
-
-starts_with-front : (w a b : List ℕ) → starts_with nat_eq (w ++ a) (w ++ b) ≡ starts_with nat_eq a b
-starts_with-front [] a b = refl
-starts_with-front (c ∷ w) a b = ap (λ t. t && starts_with nat_eq (w ++ a) (w ++ b)) (same_byte c) ∙ starts_with-front w a b
-
-is_below-joined_both : (w a b : List ℕ) → is_below (joined w a) (joined w b) ≡ is_below a b
-is_below-joined_both w a b = ap (starts_with nat_eq (joined w b)) (append_assoc w (47 ∷ a) (47 ∷ [])) ∙ starts_with-front w (47 ∷ b) (47 ∷ a ++ 47 ∷ [])
-
-pub collides-joined_both : (w a b : List ℕ) → collides (joined w a) (joined w b) ≡ collides a b
-collides-joined_both w a b =
-    ap (λ t. t || is_below (joined w b) (joined w a) || is_below (joined w a) (joined w b)) (bytes_eq-front w (47 ∷ a) (47 ∷ b))
-    ∙ ap (λ t. bytes_eq a b || t || is_below (joined w a) (joined w b)) (is_below-joined_both w b a)
-    ∙ ap (λ t. bytes_eq a b || is_below b a || t) (is_below-joined_both w a b)
-
 -- ---- the three folders of a build
 
 -- a path that a build does not use lies outside each of its folders

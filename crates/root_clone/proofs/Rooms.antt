@@ -15,7 +15,8 @@ use Rattle.bulk_model.specs.PlanFacts.{MayUnderlie, is_reserved}
 use Rattle.bulk_model.specs.Views.{JobView, PackageView}
 use Rattle.bulk_model.proofs.Bases.{file_list_has_no_conflict}
 use Rattle.root_clone.specs.Taking.{entries_of, with_all, CanTake, FitBelow}
-use Rattle.root_clone.proofs.Places.{collides-joined_both, base_outside_local, base_outside_work, all_entries, all_placed}
+use Rattle.path_laws.proofs.PathLists.{collides-joined_both}
+use Rattle.root_clone.proofs.Places.{base_outside_local, base_outside_work, all_entries, all_placed}
 use Rattle.root_clone.proofs.Taken.{take_all, list_all-with_all, with_all-append, with_all-from}
 
 -- the folder with the base root, and with the installed files
