@@ -1,6 +1,6 @@
 // A room to build in, on a disk.
-ghost use Rattle.std.specs.Prelude.{◌≡◌, ◌∷◌, [], codes, IfOk};
-ghost use Rattle.std.specs.Process.{command_args, command_program};
+ghost use Rattle.std.specs.Prelude.{◌≡◌, ◌≢◌, ◌∷◌, [], ℕ, List, true, None, codes, IfOk};
+ghost use Rattle.std.specs.Process.{command_args, command_program, command_var, clears_env};
 ghost use Rattle.std.specs.String.{string_bytes};
 ghost use Rattle.poudriere_cli.specs.Shell.{in_folder};
 
@@ -9,7 +9,8 @@ use crate::folder_files::{first_bytes_of, listed};
 use crate::place::{pass_no_name, place};
 use bulk_base::{NoMemory, Path, Paths, Text};
 use outside::{Outer, Room, Untold};
-use std::alloc::Global;
+use std::alloc::{AllocError, Global};
+use std::env::{self, Env, VarError};
 use std::fs;
 use std::process::{Command, Processes, Stdio};
 use std::rt::Files;
@@ -20,16 +21,19 @@ const IN_FOLDER: &str = "cd \"$0\" && exec \"$@\" </dev/null >/dev/null 2>&1";
 /// The status of a command that a signal ended.
 const ENDED_BY_SIGNAL: u8 = 255;
 
+/// The one variable of the program's environment that a command sees: it says where programs are.
+const PATH: &str = "PATH";
+
 /// A room in a folder of a disk, links followed. Its commands are started by the system's shell.
 #[derive(Drop)]
-pub struct DirRoom<R: Files + Processes + AllocGlobal + Clone + Drop> {
+pub struct DirRoom<R: Files + Processes + Env + AllocGlobal + Clone + Drop> {
     rt: R,
     folder: String,
     begun: Vec<Text>,
     faults: u64,
 }
 
-impl<R: Files + Processes + AllocGlobal + Clone + Drop> DirRoom<R> {
+impl<R: Files + Processes + Env + AllocGlobal + Clone + Drop> DirRoom<R> {
     /// The room in a folder, which may be absent: the first build makes it.
     pub fn new(rt: R, alloc: Global, folder: String) -> DirRoom<R>
         ensures folder { result.folder ≡ folder }
@@ -62,12 +66,30 @@ impl<R: Files + Processes + AllocGlobal + Clone + Drop> DirRoom<R> {
         fs::write(&self.rt, place.as_str(), bytes).map_err(outer)
     }
 
-    /// The shell's command that runs these words in the room. What the shell itself says of the folder is not seen.
+    /// The value of PATH; None where the program has none, or one that is no text.
+    fn search_path(&self) -> Result<Option<String>, NoMemory> {
+        match env::var(&self.rt, PATH) {
+            Ok(path) => Ok(Some(path)),
+            Err(VarError::OutOfMemory) => Err(AllocError),
+            Err(_) => Ok(None),
+        }
+    }
+
+    /// The shell's command that runs these words in the room, with no variable but PATH. What the
+    /// shell itself says of the folder is not seen.
     fn command(&self, alloc: Global, words: &[Text]) -> Result<Command, NoMemory>
         ensures program { IfOk result (λ command. command_program command ≡ codes "/bin/sh") }
-        ensures words { IfOk result (λ command. command_args command ≡ codes "-c" ∷ in_folder ∷ string_bytes self.now.folder ∷ words.now) }
+        ensures words { IfOk result (λ command. command_args command
+            ≡ codes "-c" ∷ in_folder ∷ string_bytes self.now.folder ∷ words.now) }
+        ensures clears { IfOk result (λ command. clears_env command ≡ true) }
+        ensures others { IfOk result (λ command. (name : List ℕ) → name ≢ codes "PATH"
+            → command_var command name ≡ None) }
     {
         let mut command = Command::new(alloc, "/bin/sh")?;
+        command.env_clear();
+        if let Some(path) = self.search_path()? {
+            command.env(PATH, path.as_str())?;
+        }
         command.arg("-c")?;
         command.arg(IN_FOLDER)?;
         command.arg(self.folder.as_str())?;
@@ -88,7 +110,7 @@ impl<R: Files + Processes + AllocGlobal + Clone + Drop> DirRoom<R> {
     }
 }
 
-impl<R: Files + Processes + AllocGlobal + Clone + Drop> Room for DirRoom<R> {
+impl<R: Files + Processes + Env + AllocGlobal + Clone + Drop> Room for DirRoom<R> {
     ghost use Rattle.std.specs.FinMap.{empty};
 
     type Ways = Untold;

@@ -1,0 +1,3 @@
+pub mod Running
+pub mod Staged
+pub mod Marks
