@@ -16,7 +16,7 @@ pub taken_of-cut : (left : ℕ) (path bytes : List ℕ)
     → taken_of left (Some (record { path = path; bytes = take (left + 1) bytes })) ≡ taken_of left (Some (record { path = path; bytes = bytes }))
 taken_of-cut left path bytes =
     elim (nat_le (length bytes) (left + 1)) as (λ b. nat_le (length bytes) (left + 1) ≡ b
-      → taken_of left (Some (record { path = path; bytes = take (left + 1) bytes })) ≡ taken_of left (Some (record { path = path; bytes = bytes }))) [
+    → taken_of left (Some (record { path = path; bytes = take (left + 1) bytes })) ≡ taken_of left (Some (record { path = path; bytes = bytes }))) [
       | true ↦ λ e. ap (λ bs. taken_of left (Some (record { path = path; bytes = bs }))) (take_all (left + 1) bytes (leb-true (length bytes) (left + 1) e))
       | false ↦ λ e.
           let long : left + 1 < length bytes = leb-false (length bytes) (left + 1) e in

@@ -24,15 +24,15 @@ one_added h xs i x y before now l e f n =
     ap (λ ys. ys ++ filter_map h (drop (i + 1) xs)) n
     ∙ append_assoc before (y ∷ []) (filter_map h (drop (i + 1) xs))
     ∙ sym (ap (λ ys. before ++ filter_map h ys) (drop_more xs i x l)
-      ∙ ap (λ z. before ++ cons_option (h z) (filter_map h (drop (i + 1) xs))) (sym e)
-      ∙ ap (λ o. before ++ cons_option o (filter_map h (drop (i + 1) xs))) f)
+    ∙ ap (λ z. before ++ cons_option (h z) (filter_map h (drop (i + 1) xs))) (sym e)
+    ∙ ap (λ o. before ++ cons_option o (filter_map h (drop (i + 1) xs))) f)
 
 pub none_added : {X Y : Type 0} (h : X → Option Y) (xs : List X) (i : ℕ) (x : X) (before : List Y) → i < length xs → x ≡ get_or xs i x → h x ≡ None
     → before ++ filter_map h (drop (i + 1) xs) ≡ before ++ filter_map h (drop i xs)
 none_added h xs i x before l e f =
     sym (ap (λ ys. before ++ filter_map h ys) (drop_more xs i x l)
-      ∙ ap (λ z. before ++ cons_option (h z) (filter_map h (drop (i + 1) xs))) (sym e)
-      ∙ ap (λ o. before ++ cons_option o (filter_map h (drop (i + 1) xs))) f)
+    ∙ ap (λ z. before ++ cons_option (h z) (filter_map h (drop (i + 1) xs))) (sym e)
+    ∙ ap (λ o. before ++ cons_option o (filter_map h (drop (i + 1) xs))) f)
 
 -- ---- the form of what is gathered
 
@@ -54,9 +54,9 @@ form_with w paths i path file before now l e f n h =
     let back = map (rest_of w) (drop (i + 1) paths) in
     subst IsPathList
     (ap (λ p. paths_of before ++ p ∷ back) (sym f)
-      ∙ sym (append_assoc (paths_of before) (file.path ∷ []) back)
-      ∙ ap (λ ps. ps ++ back) (sym (map-append (λ (x : FileItem). x.path) before (file ∷ [])))
-      ∙ ap (λ fs. paths_of fs ++ back) (sym n))
+    ∙ sym (append_assoc (paths_of before) (file.path ∷ []) back)
+    ∙ ap (λ ps. ps ++ back) (sym (map-append (λ (x : FileItem). x.path) before (file ∷ [])))
+    ∙ ap (λ fs. paths_of fs ++ back) (sym n))
     (next_rest w paths i path (paths_of before) l e h)
 
 pub short_with : (most : ℕ) (file : FileItem) (before now : List FileItem) → length file.path ≤ most → now ≡ before ++ file ∷ []
@@ -89,8 +89,8 @@ all_light files all w e = sym (ap light e ∙ ap (λ b. cond b None (Some files)
 pub too_heavy : (before rest all : List FileItem) (file : FileItem) → most_weight < weight_of before + file_weight file → before ++ file ∷ rest ≡ all → None ≡ light all
 too_heavy before rest all file w e =
     sym (ap light (sym e)
-      ∙ ap (λ b. cond b None (Some (before ++ file ∷ rest)))
-      (lt-ltb most_weight (weight_of (before ++ file ∷ rest)) (omega (arith, w, sum_by-append file_weight before (file ∷ rest), sum_by-cons file_weight file rest))))
+    ∙ ap (λ b. cond b None (Some (before ++ file ∷ rest)))
+    (lt-ltb most_weight (weight_of (before ++ file ∷ rest)) (omega (arith, w, sum_by-append file_weight before (file ∷ rest), sum_by-cons file_weight file rest))))
 
 -- the gathering stops at a file that is too heavy
 pub stopped : (h : List ℕ → Option FileItem) (paths : List (List ℕ)) (i : ℕ) (path : List ℕ) (before all : List FileItem) (left : ℕ) → i < length paths → path ≡ get_or paths i path
@@ -99,6 +99,6 @@ stopped h paths i path before all left l e heavy sum told =
     let found = heavy_is_some left (h path) heavy in
     too_heavy before (filter_map h (drop (i + 1) paths)) all found.0 (omega (arith, sum, found.2))
     (sym (ap (λ ps. before ++ filter_map h ps) (drop_more paths i path l)
-        ∙ ap (λ p. before ++ cons_option (h p) (filter_map h (drop (i + 1) paths))) (sym e)
-        ∙ ap (λ o. before ++ cons_option o (filter_map h (drop (i + 1) paths))) found.1)
-      ∙ told)
+    ∙ ap (λ p. before ++ cons_option (h p) (filter_map h (drop (i + 1) paths))) (sym e)
+    ∙ ap (λ o. before ++ cons_option o (filter_map h (drop (i + 1) paths))) found.1)
+    ∙ told)

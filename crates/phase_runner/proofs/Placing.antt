@@ -38,10 +38,10 @@ pub place_next : (packages : List PackageView) (i : ℕ) (p : PackageView) (old 
     → ArePlaces i packages old → ArePlaces (i + 1) packages new
 place_next packages i p old new key l k gains h = λ name.
     let more : list_any (is_named name) (take (i + 1) packages) ≡ (list_any (is_named name) (take i packages) || bytes_eq name key) =
-        ap (list_any (is_named name)) (take_more packages i p l)
-        ∙ list_any-append (is_named name) (take i packages) (get_or packages i p ∷ [])
-        ∙ ap (λ x. list_any (is_named name) (take i packages) || (bytes_eq name x || false)) (sym k)
-        ∙ or_false (list_any (is_named name) (take i packages)) (bytes_eq name key) in
+    ap (list_any (is_named name)) (take_more packages i p l)
+    ∙ list_any-append (is_named name) (take i packages) (get_or packages i p ∷ [])
+    ∙ ap (λ x. list_any (is_named name) (take i packages) || (bytes_eq name x || false)) (sym k)
+    ∙ or_false (list_any (is_named name) (take i packages)) (bytes_eq name key) in
     subst (IsPlace (i + 1) packages name) (sym (gains name)) (one_named packages i name (map.get old name) (bytes_eq name key) l more (h name))
 
 or_none : (o : Option ℕ) → o ≡ option_or o None
@@ -101,9 +101,9 @@ mark_from packages depend (Some other) at e h =
     let same : other ≡ at = ap (λ o. unwrap_or o 0) e in
     ap (λ o. option_map_or mark o no_digest)
     (sym (ap (find (is_meant depend)) (sym (take-append-drop at packages))
-      ∙ find-append (is_meant depend) (take at packages) (drop at packages)
-      ∙ ap (λ o. option_or o (find (is_meant depend) (drop at packages)))
-      (none_meant depend (take at packages) (ap (λ n. list_any (is_named depend.name) (take n packages)) (sym same) ∙ h.1))))
+    ∙ find-append (is_meant depend) (take at packages) (drop at packages)
+    ∙ ap (λ o. option_or o (find (is_meant depend) (drop at packages)))
+    (none_meant depend (take at packages) (ap (λ n. list_any (is_named depend.name) (take n packages)) (sym same) ∙ h.1))))
 
 pub mark_nowhere : (packages : List PackageView) (depend : Depend) (place : Option ℕ) → place ≡ None → IsPlace (length packages) packages depend.name place → no_digest ≡ mark_among packages depend
 mark_nowhere packages depend (Some at) e h = absurd cc

@@ -25,10 +25,7 @@ fn place_first(places: &mut TextMap<usize>, name: Text, at: usize) -> Result<(),
 }
 
 /// The place of the first package of each name.
-fn first_places(
-    alloc: Global,
-    packages: &[Shared<Package>],
-) -> Result<TextMap<usize>, NoMemory>
+fn first_places(alloc: Global, packages: &[Shared<Package>]) -> Result<TextMap<usize>, NoMemory>
     ensures { IfOk result (ArePlaces (length packages.now) packages.now) }
 {
     let mut places = TextMap::new(alloc);

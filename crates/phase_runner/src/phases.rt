@@ -28,11 +28,7 @@ fn stopped(phase: Phase, code: u8) -> Option<Stop>
 
 /// Runs commands one after another, up to the first whose status is not 0, and answers the status of
 /// the last that ran; 0 where there is none.
-fn run_commands<R: Room>(
-    alloc: Global,
-    room: &mut R,
-    commands: &[Command],
-) -> Result<u8, Outer>
+fn run_commands<R: Room>(alloc: Global, room: &mut R, commands: &[Command]) -> Result<u8, Outer>
     ensures told { IsTrue R.Ways.tells → IfOk result (λ status.
         bake.run_all R.Ways.runs commands.now (R.folder room.old)
         ≡ (status, R.folder room.new)) }

@@ -75,8 +75,24 @@ impl<R: Files + Processes + Env + AllocGlobal + Clone + Drop> DirRoom<R> {
         }
     }
 
-    /// The shell's command that runs these words in the room, with no variable but PATH. What the
-    /// shell itself says of the folder is not seen.
+    /// The shell's command that runs these words in the room. What the shell itself says of the folder is not seen.
+    fn shell_command(&self, alloc: Global, words: &[Text]) -> Result<Command, NoMemory>
+        ensures program { IfOk result (λ command. command_program command ≡ codes "/bin/sh") }
+        ensures words { IfOk result (λ command. command_args command
+            ≡ codes "-c" ∷ in_folder ∷ string_bytes self.now.folder ∷ words.now) }
+    {
+        let mut command = Command::new(alloc, "/bin/sh")?;
+        command.arg("-c")?;
+        command.arg(IN_FOLDER)?;
+        command.arg(self.folder.as_str())?;
+        for word in words {
+            command.arg(word.as_str())?;
+        }
+        command.stderr(Stdio::null());
+        Ok(command)
+    }
+
+    /// The same command with no variable of the environment but PATH, as the program has it.
     fn command(&self, alloc: Global, words: &[Text]) -> Result<Command, NoMemory>
         ensures program { IfOk result (λ command. command_program command ≡ codes "/bin/sh") }
         ensures words { IfOk result (λ command. command_args command
@@ -85,18 +101,11 @@ impl<R: Files + Processes + Env + AllocGlobal + Clone + Drop> DirRoom<R> {
         ensures others { IfOk result (λ command. (name : List ℕ) → name ≢ codes "PATH"
             → command_var command name ≡ None) }
     {
-        let mut command = Command::new(alloc, "/bin/sh")?;
+        let mut command = self.shell_command(alloc, words)?;
         command.env_clear();
         if let Some(path) = self.search_path()? {
             command.env(PATH, path.as_str())?;
         }
-        command.arg("-c")?;
-        command.arg(IN_FOLDER)?;
-        command.arg(self.folder.as_str())?;
-        for word in words {
-            command.arg(word.as_str())?;
-        }
-        command.stderr(Stdio::null());
         Ok(command)
     }
 

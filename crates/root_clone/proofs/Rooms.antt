@@ -86,7 +86,7 @@ full_room base items packages job folder first second third e n k m o h none for
     let work = placed (codes "work") job.files in
     let based : rooted base ≡ from_entries (entries_of base) = with_all-from [] (entries_of base) (base_is_taken base h) in
     let based_too : equipped base packages ≡ from_entries (entries_of base ++ local) =
-        ap (λ c. with_all c local) based ∙ with_all-from (entries_of base) local (subst (λ c. CanTake c local) based (installed_are_taken base packages h none)) in
+    ap (λ c. with_all c local) based ∙ with_all-from (entries_of base) local (subst (λ c. CanTake c local) based (installed_are_taken base packages h none)) in
     o ∙ ap (λ c. with_all c work) (is_equipped base items packages folder first second e n k m ∙ based_too)
     ∙ with_all-from (entries_of base ++ local) work (subst (λ c. CanTake c work) based_too (work_is_taken base packages job.files h form))
 

@@ -58,7 +58,7 @@ module _ {X : Type 0} where
   list_any-put test k v [] h = refl
   list_any-put test k v (e ∷ es) h =
       elim (order k e.0) as (λ o. (is_eq o || list_any (eq_by_cmp order k) (map (λ x. x.0) es)) ≡ false
-        → list_any test (map (λ x. x.0) (by_order o ((k, v) ∷ e ∷ es) ((e.0, v) ∷ es) (e ∷ put order k v es))) ≡ (test k || (test e.0 || list_any test (map (λ x. x.0) es)))) [
+      → list_any test (map (λ x. x.0) (by_order o ((k, v) ∷ e ∷ es) ((e.0, v) ∷ es) (e ∷ put order k v es))) ≡ (test k || (test e.0 || list_any test (map (λ x. x.0) es)))) [
         | Less ↦ λ n. refl
         | Equal ↦ λ n. absurd cc
         | Greater ↦ λ n. let more = list_any-put test k v es n in grind (arith, more)

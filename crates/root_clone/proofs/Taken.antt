@@ -64,16 +64,16 @@ pub take_all : (place : List ℕ → List ℕ) → ((a b : List ℕ) → collide
 take_all place same seen [] folder free h = tt
 take_all place same seen (f ∷ files) folder free h =
     elim (list_any (collides f.path) seen) as (λ b. list_any (collides f.path) seen ≡ b → cond b (Some f.path) (first_conflict (f.path ∷ seen) files) ≡ None
-      → CanTake folder (map (λ file. (place file.path, file.bytes)) (f ∷ files))) [
+    → CanTake folder (map (λ file. (place file.path, file.bytes)) (f ∷ files))) [
       | true ↦ λ e n. absurd cc
       | false ↦ λ e n. (
-          free f.path e,
-          take_all place same (f.path ∷ seen) files (insert folder (place f.path) f.bytes)
-          (λ path k.
-              let m = apart (collides path f.path) (list_any (collides path) seen) k in
-              list_all-insert (λ other. not (collides (place path) other)) folder (place f.path) f.bytes (ap not (same path f.path ∙ m.0)) (free path m.1))
-          n,
-        )
+        free f.path e,
+        take_all place same (f.path ∷ seen) files (insert folder (place f.path) f.bytes)
+            (λ path k.
+            let m = apart (collides path f.path) (list_any (collides path) seen) k in
+            list_all-insert (λ other. not (collides (place path) other)) folder (place f.path) f.bytes (ap not (same path f.path ∙ m.0)) (free path m.1))
+            n,
+      )
     ] refl h
 
 -- ---- the folder of all of them
@@ -93,7 +93,7 @@ with_all-from front [] h = ap from_entries (sym (append-nil front))
 with_all-from front (e ∷ es) h =
     let none : find order e.0 front ≡ None = sym (get-from_entries nat_list_cmp_total front e.0) ∙ get-entries (from_entries front) e.0 ∙ find-free e.0 (entries (from_entries front)) h.0 in
     let one : from_entries (front ++ e ∷ []) ≡ insert (from_entries front) e.0 e.1 =
-        from_entries_push nat_list_cmp_total (slice_cmp-IsAntisymmetric nat_cmp-IsAntisymmetric) front e.0 e.1 none in
+    from_entries_push nat_list_cmp_total (slice_cmp-IsAntisymmetric nat_cmp-IsAntisymmetric) front e.0 e.1 none in
     ap (λ c. with_all c es) (sym one)
     ∙ with_all-from (front ++ e ∷ []) es (subst (λ c. CanTake c es) (sym one) h.1)
     ∙ ap from_entries (append_assoc front (e ∷ []) es)

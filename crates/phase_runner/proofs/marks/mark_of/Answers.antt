@@ -12,7 +12,7 @@ pub returns-in-Some : goal.returns-in-Some
 returns-in-Some c =
     IfOk-weaker c.first_mark.result (λ digest. digest ≡ mark_among c.from_place.result.now c.args.depend.now) (λ digest. digest ≡ mark_among c.args.packages.now c.args.depend.now)
     (λ digest e. e ∙ ap (λ ps. mark_among ps c.args.depend.now) c.from_place.ensures
-      ∙ mark_from c.args.packages.now c.args.depend.now (get c.args.places.now c.args.depend.now.name) c.in-Some.place.now (sym c.in-Some.ensures) (c.requires c.args.depend.now.name))
+    ∙ mark_from c.args.packages.now c.args.depend.now (get c.args.places.now c.args.depend.now.name) c.in-Some.place.now (sym c.in-Some.ensures) (c.requires c.args.depend.now.name))
     c.first_mark.ensures
 
 pub returns-in-None : goal.returns-in-None

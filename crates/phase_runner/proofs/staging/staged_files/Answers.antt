@@ -28,8 +28,8 @@ returns-in-TooHeavy-clause-told g c t =
     let old = g.R.Room.folder c.names.new.self in
     let here = c.in_ok-take_file.ensures.told t ∙ ap (λ m. taken_of c.loop-path.left (file_at (codes "stage") m c.path-item.result)) (c.loop-path.invariant.same t) in
     let all = c.loop-path.invariant.told t
-      ∙ ap (filter_map (file_at (codes "stage") old)) (c.as_slice-path-items.ensures ∙ c.in_ok-paths.ensures.told t)
-      ∙ (λ k. filter_map (file_at (codes "stage") (c.in_ok-paths.ensures.same t k)) (files_below ((c.in_ok-stage.ensures ∙ c.as_slice.ensures) k) (g.R.Room.folder c.args.room.now))) in
+    ∙ ap (filter_map (file_at (codes "stage") old)) (c.as_slice-path-items.ensures ∙ c.in_ok-paths.ensures.told t)
+    ∙ (λ k. filter_map (file_at (codes "stage") (c.in_ok-paths.ensures.same t k)) (files_below ((c.in_ok-stage.ensures ∙ c.as_slice.ensures) k) (g.R.Room.folder c.args.room.now))) in
     stopped (file_at (codes "stage") old) c.as_slice-path-items.result.now c.loop-path.path-index c.path-item.result c.loop-path.files _ c.loop-path.left c.loop-path-test.true c.path-item.is (sym c.in-TooHeavy.is ∙ here) c.loop-path.invariant.sum all
 
 pub loop-path-preserved : goal.loop-path-preserved
@@ -39,7 +39,7 @@ loop-path-preserved g c = elim c.match-branch-4.branch [
       record {
         told = λ t.
             let none = gone_is_none c.loop-path.left (file_at (codes "stage") (g.R.Room.folder c.names.new.self) c.path-item.result)
-              (sym w.in-Gone.is ∙ c.in_ok-take_file.ensures.told t ∙ ap (λ m. taken_of c.loop-path.left (file_at (codes "stage") m c.path-item.result)) (c.loop-path.invariant.same t)) in
+            (sym w.in-Gone.is ∙ c.in_ok-take_file.ensures.told t ∙ ap (λ m. taken_of c.loop-path.left (file_at (codes "stage") m c.path-item.result)) (c.loop-path.invariant.same t)) in
             ap (λ fs. fs ++ filter_map (file_at (codes "stage") (g.R.Room.folder c.names.new.self)) (drop (c.loop-path.path-index + 1) c.as_slice-path-items.result.now)) files
             ∙ none_added (file_at (codes "stage") (g.R.Room.folder c.names.new.self)) c.as_slice-path-items.result.now c.loop-path.path-index c.path-item.result c.loop-path.files c.loop-path-test.true c.path-item.is none
             ∙ c.loop-path.invariant.told t;
@@ -57,7 +57,7 @@ loop-path-preserved g c = elim c.match-branch-4.branch [
       record {
         told = λ t.
             let some = file_is_some c.loop-path.left w.in-File.file (file_at (codes "stage") (g.R.Room.folder c.names.new.self) c.path-item.result)
-              (sym w.in-File.is ∙ c.in_ok-take_file.ensures.told t ∙ ap (λ m. taken_of c.loop-path.left (file_at (codes "stage") m c.path-item.result)) (c.loop-path.invariant.same t)) in
+            (sym w.in-File.is ∙ c.in_ok-take_file.ensures.told t ∙ ap (λ m. taken_of c.loop-path.left (file_at (codes "stage") m c.path-item.result)) (c.loop-path.invariant.same t)) in
             one_added (file_at (codes "stage") (g.R.Room.folder c.names.new.self)) c.as_slice-path-items.result.now c.loop-path.path-index c.path-item.result w.in-File.file c.loop-path.files c.match-branch-4.files
             c.loop-path-test.true c.path-item.is some files
             ∙ c.loop-path.invariant.told t;

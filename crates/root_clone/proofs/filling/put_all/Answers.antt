@@ -21,5 +21,5 @@ pub returns-clause-told : goal.returns-clause-told
 returns-clause-told g c t =
     OnOk-map c.put_work.result
     (λ full. full_room c.args.base.now c.as_slice.result.now c.args.packages.now c.args.job.now (g.R.Room.folder c.args.room.now) (g.R.Room.folder c.put_base.new.room) (g.R.Room.folder c.put_installed.new.room) (g.R.Room.folder c.put_work.new.room)
-      (c.requires.empty t) c.as_slice.ensures (c.in_ok-put_base.ensures.told t) (c.in_ok-put_installed.ensures.told t) full c.requires.base c.requires.apart (subst (λ (j : JobView). IsFileList 1019 j.files) c.job.view_is c.job.invariant.files))
+    (c.requires.empty t) c.as_slice.ensures (c.in_ok-put_base.ensures.told t) (c.in_ok-put_installed.ensures.told t) full c.requires.base c.requires.apart (subst (λ (j : JobView). IsFileList 1019 j.files) c.job.view_is c.job.invariant.files))
     (c.put_work.ensures.told t)

@@ -19,7 +19,7 @@ returns-clause-built g c = elim c.match-branch-3.branch [
       let full = λ (t : IsTrue g.R.Ways.Ways.tells). c.in_ok-fill.ensures.told t ∙ ap (λ f. left_by f (first_folder c.args.base.now c.args.packages.now c.args.job.now)) w.in-Ready.is in
       subst (λ r. IfOk r (IsBuildOf g.R.Ways.Ways.tells g.R.Ways.Ways.runs c.args.base.now c.args.job.now c.args.packages.now)) (sym w.result-is)
       (is_build g.R.Ways.Ways.tells g.R.Ways.Ways.runs c.args.base.now c.args.job.now c.args.packages.now _ w.build.result w.build.ensures.fields w.build.ensures.told
-        (λ t. ready_bakes g.R.Ways.Ways.runs c.args.base.now c.args.job.now c.args.packages.now (g.R.Room.folder c.fill.new.room) none (full t)))
+      (λ t. ready_bakes g.R.Ways.Ways.runs c.args.base.now c.args.job.now c.args.packages.now (g.R.Room.folder c.fill.new.room) none (full t)))
 ]
 
 pub returns-clause-conflict : goal.returns-clause-conflict
