@@ -109,3 +109,27 @@ check_room_taken_away() {
   bulk a/x
   failed a/x x-1.0 stage "$code"
 }
+
+# A command sees PATH, and what the shell sets; nothing else of whoever calls.
+check_environment_is_path_alone() {
+  ax 'DO_STAGE=sh work/show'
+  ax_file show 'env | cut -d = -f 1 | grep -v -x -e PWD -e OLDPWD -e SHLVL -e _ >stage/names\nprintf "%s" "$PATH" >stage/path\n'
+  CFLAGS=-O3 CDPATH=/tmp LC_ALL=de_DE.UTF-8 HOME=/root SECRET=1 bulk a/x
+  built a/x x-1.0
+  staged names 'PATH\n'
+  staged path "$PATH"
+  want_package x-1.0 a/x
+}
+
+check_environment_without_path() {
+  ax 'DO_STAGE=/bin/sh work/show'
+  ax_file show '/usr/bin/env | /usr/bin/grep -c SECRET= >stage/count\n'
+  local timeout
+  timeout=$(command -v timeout)
+  : >../stderr
+  env -i SECRET=1 "$timeout" 60 "$program" bulk a/x <../stdin >../stdout 2>../stderr
+  status=$?
+  built a/x x-1.0
+  staged count '0\n'
+  want_package x-1.0 a/x
+}
