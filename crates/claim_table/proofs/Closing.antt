@@ -1,6 +1,5 @@
 -- A table as it is closed.
 use Rattle.std.proofs.Common.{◌≡◌, ◌≢◌, ℕ, zero, suc, ◌+◌, ◌≤◌, ◌==◌, Bool, true, false, not, ◌&&◌, ◌||◌, List, [], ◌∷◌, ◌++◌, length, take, get_or, Option, Some, None, is_some, refl, sym, ap, subst, ◌∙◌, ⊎_elim, true≢false, if◌then◌else◌, add-one, arith}
-use Rattle.std.specs.Option.{option_map_or}
 use Rattle.std.proofs.lemmas.Bool.{cases_lt, false_from_ne_true}
 use Rattle.std.proofs.lemmas.List.{get_or_past}
 use mathlib.Core.Option.{some, none, some-injective, some-ne-none}
@@ -16,12 +15,14 @@ use Rattle.claim_table.specs.declared.view.Task.{Task}
 use Rattle.claim_table.specs.declared.view.View.{View}
 use Rattle.bulk_base.specs.Totals.{total, At}
 use Rattle.claim_table.specs.Words.{word_of, word_at, is_good, is_claimed, is_reading, is_kept_word, is_ignored_word, is_bare, is_out, was_claimed}
-use Rattle.claim_table.specs.Told.{Lore, is_made}
-use Rattle.claim_table.specs.Views.{one, has, held, times, Face, face, IsSo}
+use Rattle.claim_table.specs.Told.{Lore}
+use Rattle.claim_table.specs.Views.{one, held, times, Face, face, IsSo}
 use Rattle.claim_table.specs.Rule.{all_shares, nobody, Rests, Ruled}
-use Rattle.claim_table.specs.Seats.{outcome_at, has_package, IsClosed}
+use Rattle.claim_table.specs.Seats.{IsClosed}
 use Rattle.bulk_base.proofs.Totals.{total-two, total-alone}
 use Rattle.claim_table.proofs.Words.{all-more, good-not-bad, there}
+use Rattle.bulk_model.specs.Installs.{has}
+use Rattle.bulk_model.specs.Fit.{outcome_at, has_built, is_there}
 
 got : {A : Type 0} (xs : List A) (n : ℕ) (x d : A) → get_elem? xs n ≡ some x → get_or xs n d ≡ x
 got [] n x d e = absurd (some-ne-none x (sym e))
@@ -101,7 +102,7 @@ module _ (l : Lore) (t : Task) where
   some-bare n word (Some (MadePackage p)) h = sym (ap (λ w. not (is_bare w)) h.0)
   some-bare n word (Some (FailedBuild phase code)) h = sym (ap (λ w. not (is_bare w)) h.0)
 
-  package-good : (n : ℕ) (word : Word) (o : Option Outcome) → Rests l t n word (some o) → (is_kept_word word || option_map_or is_made o false) ≡ is_good word
+  package-good : (n : ℕ) (word : Word) (o : Option Outcome) → Rests l t n word (some o) → (is_kept_word word || has_built o) ≡ is_good word
   package-good n word None h = bare-good word h
   package-good n word (Some (MadePackage p)) h = subst (λ w. (is_kept_word w || true) ≡ is_good w) (sym h.0) refl
   package-good n word (Some (FailedBuild phase code)) h = subst (λ w. (is_kept_word w || false) ≡ is_good w) (sym h.0) refl
@@ -147,15 +148,17 @@ module _ (l : Lore) (t : Task) where
       let nil : outcome_at slots n ≡ None = get_or_past slots n None (omega arith) in
       subst (λ o. Rests l t n (word_at s.words n) (some o)) (sym nil) (ap is_bare free))
       (cases_lt n (length t.plan.jobs)) in
-      let packed : (n : ℕ) → has_package t slots n ≡ is_good (word_at s.words n) = λ (n : ℕ). ap (λ k. k || option_map_or is_made (outcome_at slots n) false) (sym (r.kept n)) ∙ package-good n (word_at s.words n) (outcome_at slots n) (rests n) in
+      let packed : (n : ℕ) → is_there t.kept slots n ≡ is_good (word_at s.words n) = λ (n : ℕ). ap (λ k. k || has_built (outcome_at slots n)) (sym (r.kept n)) ∙ package-good n (word_at s.words n) (outcome_at slots n) (rests n) in
       let outcome : (n : ℕ) → is_some (outcome_at slots n) ≡ not (is_bare (word_at s.words n)) = λ (n : ℕ). some-bare n (word_at s.words n) (outcome_at slots n) (rests n) in
       record {
-        size = sym long ∙ places;
+        fits = record {
+          places = sym long ∙ places;
+          own = λ n o e. let w : (is_kept_word (word_at s.words n) ≡ false) × (is_ignored_word (word_at s.words n) ≡ false) × (was_claimed (word_at s.words n) ≡ true) = own-word (word_at s.words n) (sym (outcome n) ∙ ap is_some e) in (sym (r.kept n) ∙ w.0, sym (r.ignored n) ∙ w.1);
+          behind = λ n o e. let w : (is_kept_word (word_at s.words n) ≡ false) × (is_ignored_word (word_at s.words n) ≡ false) × (was_claimed (word_at s.words n) ≡ true) = own-word (word_at s.words n) (sym (outcome n) ∙ ap is_some e) in all-more (λ d. is_good (word_at s.words d)) (is_there t.kept slots) (λ d g. packed d ∙ g) (depends t.plan n) (r.after n w.2);
+        };
         right = λ n o e. (subst (λ x. Rests l t n (word_at s.words n) (some x)) e (rests n)).1;
         ended = λ n. outcome n ∙ ended-word (word_at s.words n) (face v n) (r.known id v at n) (claims n) (off n) (unclaimed n) (unheld n) ∙ ap (λ b. b && not (has v.given n)) (sym (has-times v.claims n (was_claimed (word_at s.words n)) (claims n)));
         once = λ n. let c : times v.claims n ≡ one (was_claimed (word_at s.words n)) = claims n in let m = at-most (was_claimed (word_at s.words n)) in omega arith;
-        own = λ n e. let w : (is_kept_word (word_at s.words n) ≡ false) × (is_ignored_word (word_at s.words n) ≡ false) × (was_claimed (word_at s.words n) ≡ true) = own-word (word_at s.words n) (sym (outcome n) ∙ e) in (sym (r.kept n) ∙ w.0, sym (r.ignored n) ∙ w.1);
-        behind = λ n e. let w : (is_kept_word (word_at s.words n) ≡ false) × (is_ignored_word (word_at s.words n) ≡ false) × (was_claimed (word_at s.words n) ≡ true) = own-word (word_at s.words n) (sym (outcome n) ∙ e) in all-more (λ d. is_good (word_at s.words d)) (has_package t slots) (λ d g. packed d ∙ g) (depends t.plan n) (r.after n w.2);
         built = λ n e. packed n ∙ (r.known id v at n).built e;
         bad = λ n e. packed n ∙ false_from_ne_true (is_good (word_at s.words n)) (λ g. good-not-bad (word_at s.words n) g ((r.known id v at n).bad e));
       }

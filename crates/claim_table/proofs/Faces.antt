@@ -4,11 +4,13 @@ use Rattle.claim_table.specs.declared.word.Word.{Word}
 use Rattle.claim_table.specs.declared.word.Word.TheVariants.{Free, Claimed, Built, Failed, Reading, Skipped, Kept, Ignored, GivenUp}
 use Rattle.claim_table.specs.declared.view.Task.{Task}
 use Rattle.claim_table.specs.declared.view.View.{View}
-use Rattle.claim_table.specs.Words.{is_good, is_bad, is_claimed, is_reading, is_skipped, is_kept_word, is_ignored_word, is_given_up, is_ended, was_claimed}
-use Rattle.claim_table.specs.Views.{one, has, held, times, Face, face, IsSo}
+use Rattle.claim_table.specs.Words.{is_good, is_bad, is_claimed, is_reading, is_skipped, is_kept_word, is_ignored_word, is_given_up, was_claimed}
+use Rattle.claim_table.specs.Views.{one, held, times, Face, face, IsSo}
 use Rattle.claim_table.specs.Rule.{all_good, some_bad}
-use Rattle.claim_table.specs.Steps.{put_if, after_look, after_claim, after_end, after_skip, after_begin, after_close}
 use Rattle.claim_table.proofs.Placed.{Owes}
+use Rattle.claim_table.proofs.Words.{is_ended}
+use Rattle.bulk_model.specs.Installs.{has}
+use Rattle.claim_table.specs.Changes.{put_if, after_look, after_claim, after_end, after_skip, after_begin, after_close}
 
 -- two faces are one where their parts are
 pub same-face : (f g : Face) → f.holds ≡ g.holds → f.reads ≡ g.reads → f.built ≡ g.built → f.bad ≡ g.bad → f.claims ≡ g.claims → f.given ≡ g.given → f ≡ g
@@ -174,8 +176,8 @@ module _ (t : Task) (words : List ℕ) (n : ℕ) (v : View) where
     skipped = λ _. inr reason;
   }
 
-  pub opens-owed : v.reads ≡ None → IsSo Built (face v n) → Owes t words n Built Reading v (after_begin n v)
-  opens-owed idle so =
+  pub begins-owed : v.reads ≡ None → IsSo Built (face v n) → Owes t words n Built Reading v (after_begin n v)
+  begins-owed idle so =
       let off : (k : ℕ) → held v.reads k ≡ false = λ (k : ℕ). ap (λ h. held h k) idle in
       let off_here : one (held v.reads n) ≡ 0 = ap one (off n) in
       let on_here : one (held (Some n) n) ≡ 1 = ap one (same n) in
@@ -196,8 +198,8 @@ module _ (t : Task) (words : List ℕ) (n : ℕ) (v : View) where
         skipped = λ e. absurd (true≢false (sym e));
       }
 
-  pub shuts-owed : v.reads ≡ Some n → IsSo Reading (face v n) → Owes t words n Reading Built v (after_close n v)
-  shuts-owed mine so =
+  pub closes-owed : v.reads ≡ Some n → IsSo Reading (face v n) → Owes t words n Reading Built v (after_close n v)
+  closes-owed mine so =
       let on : (k : ℕ) → held v.reads k ≡ (n == k) = λ (k : ℕ). ap (λ h. held h k) mine in
       let on_here : one (held v.reads n) ≡ 1 = ap one (on n ∙ same n) in
       record {

@@ -9,9 +9,9 @@ use Rattle.bulk_model.specs.Results.{is_kept}
 use Rattle.claim_table.specs.declared.word.Word.{Word}
 use Rattle.claim_table.specs.declared.view.View.{View}
 use Rattle.claim_table.specs.Words.{is_good, is_bad}
-use Rattle.claim_table.specs.Views.{has}
-use Rattle.claim_table.specs.Steps.{put_if, after_look}
 use Rattle.claim_table.specs.Seats.{is_known, KnowsMore}
+use Rattle.bulk_model.specs.Installs.{has}
+use Rattle.claim_table.specs.Changes.{put_if, after_look}
 
 put-more : (b : Bool) (n k : ℕ) (ns : List ℕ) → has ns k ≡ true → has (put_if b n ns) k ≡ true
 put-more true n k ns e = or_right (n == k) (has ns k) e

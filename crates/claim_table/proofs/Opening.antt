@@ -1,10 +1,8 @@
 -- A table as it is made.
-use Rattle.std.proofs.Common.{◌≡◌, ℕ, zero, suc, ◌+◌, ◌<◌, ◌==◌, Bool, true, false, not, ◌&&◌, ◌||◌, List, [], ◌∷◌, map, length, replicate, get_or, slice_index, slice_index_or, Option, None, is_some, refl, sym, ap, subst, ◌∙◌, ⊎_elim, true≢false, if◌then◌else◌, zero-add, arith}
-use Rattle.std.specs.List.{list_all, range_with_len}
-use Rattle.std.proofs.lemmas.Bool.{cases_lt, true_from_ne_false, not-true, eqb-true}
+use Rattle.std.proofs.Common.{◌≡◌, ℕ, zero, suc, ◌+◌, ◌<◌, Bool, true, false, List, [], ◌∷◌, map, length, replicate, get_or, slice_index, slice_index_or, Option, None, is_some, refl, sym, ap, subst, ◌∙◌, ⊎_elim, true≢false, if◌then◌else◌, arith}
+use Rattle.std.specs.List.{list_all}
+use Rattle.std.proofs.lemmas.Bool.{cases_lt}
 use Rattle.std.proofs.lemmas.List.{get_or_past}
-use Rattle.std.proofs.lemmas.List.Folds.{list_all_at}
-use Rattle.std.proofs.lemmas.List.FromFn.{get_or-range_with_len, length-range_with_len}
 use mathlib.Core.Option.{some, none, some-injective, some-ne-none}
 use mathlib.Core.Option as maybe
 use lib.ListN.{get_elem?}
@@ -22,39 +20,18 @@ use Rattle.claim_table.specs.Words.{word_of, word_at, is_claimed, is_reading, is
 use Rattle.claim_table.specs.Told.{Lore}
 use Rattle.claim_table.specs.Views.{one, face, IsSo}
 use Rattle.claim_table.specs.Rule.{first_view, Fits, Rests, Ruled}
-use Rattle.claim_table.specs.Seats.{AreFitting}
-use Rattle.claim_table.specs.Inside.{first_code, AreFirst}
 use Rattle.bulk_base.proofs.Totals.{alone}
-
-module _ (f : ℕ → Bool) where
-  -- what holds of all nodes holds of each
-  at-node : (count : ℕ) → list_all f (range_with_len 0 count) ≡ true → (n : ℕ) → n < count → f n ≡ true
-  at-node count all n inside =
-      let at : get_or (range_with_len 0 count) n 0 ≡ n = get_or-range_with_len 0 count n 0 inside ∙ zero-add n in
-      let size : length (range_with_len 0 count) ≡ count = length-range_with_len 0 count in
-      true_from_ne_false (f n) (λ off. true≢false (sym all ∙ list_all_at f (range_with_len 0 count) n 0 (omega arith) (ap f at ∙ off)))
-
-no-length : {A : Type 0} (xs : List A) → (length xs == 0) ≡ true → xs ≡ []
-no-length [] e = refl
-no-length (x ∷ xs) e = absurd (let z : length (x ∷ xs) ≡ 0 = eqb-true (length (x ∷ xs)) 0 e in omega arith)
+use Rattle.claim_table.specs.Inside.{AreFitting, first_code, AreFirst}
 
 -- a list that has so many places has nothing past them
 none-past : {A : Type 0} (xs : List (Option A)) (count n : ℕ) → length xs ≡ count → is_some (slice_index_or xs n None) ≡ true → n < count
 none-past xs count n size e = ⊎_elim (λ below. below) (λ past. absurd (true≢false (sym e ∙ ap is_some (get_or_past xs n None (omega arith))))) (cases_lt n count)
 
-not-both : (a b : Bool) → not (a && b) ≡ true → a ≡ true → b ≡ false
-not-both true b e h = not-true b e
-not-both false b e h = absurd (true≢false (sym h))
-
-implies : (a b : Bool) → (not a || b) ≡ true → a ≡ true → b ≡ true
-implies true b e h = e
-implies false b e h = absurd (true≢false (sym h))
-
 pub fitting : (plan : PlanView) (kept : KeptPackages) → IsPlan plan → FitsKept plan kept → AreFitting plan kept
 fitting plan kept is fit = record {
-  apart = λ n k. not-both (is_kept kept n) (is_ignored plan n) (at-node (λ m. not (is_kept kept m && is_ignored plan m)) (length plan.jobs) fit.allowed n (none-past kept.packages (length plan.jobs) n fit.places k)) k;
-  closed = λ n k. implies (is_kept kept n) (list_all (is_kept kept) (depends plan n)) (at-node (λ m. not (is_kept kept m) || list_all (is_kept kept) (depends plan m)) (length plan.jobs) fit.closed n (none-past kept.packages (length plan.jobs) n fit.places k)) k;
-  without = λ n i. no-length (depends plan n) (implies (is_ignored plan n) (length (depends plan n) == 0) (at-node (λ m. not (is_ignored plan m) || (length (depends plan m) == 0)) (length plan.jobs) is.without n (none-past plan.ignored (length plan.jobs) n is.ignored i)) i);
+  apart = λ n k. fit.allowed n (none-past kept.packages (length plan.jobs) n fit.places k) k;
+  closed = λ n k. fit.closed n (none-past kept.packages (length plan.jobs) n fit.places k) k;
+  without = λ n i. is.without n (none-past plan.ignored (length plan.jobs) n is.ignored i) i;
 }
 
 -- what a node's first word says

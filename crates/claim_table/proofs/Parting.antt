@@ -10,10 +10,11 @@ use Rattle.claim_table.specs.declared.view.View.{View}
 use Rattle.bulk_base.specs.Totals.{total, At}
 use Rattle.claim_table.specs.Words.{word_at, is_good, is_bad, is_given_up, was_claimed}
 use Rattle.claim_table.specs.Told.{Lore}
-use Rattle.claim_table.specs.Views.{one, has, held, times, face, IsSo}
+use Rattle.claim_table.specs.Views.{one, held, times, face, IsSo}
 use Rattle.claim_table.specs.Rule.{nobody, Fits, Ruled}
-use Rattle.claim_table.specs.Steps.{first_part, second_part, together}
 use Rattle.bulk_base.proofs.Totals.{total-set, total-snoc, total-two, each-set, each-snoc}
+use Rattle.bulk_model.specs.Installs.{has}
+use Rattle.claim_table.specs.Changes.{first_part, second_part, together}
 
 -- other views that hold, read and claim together what these do
 record Covers (t : Task) (words : List ℕ) (old new : List View) : Type 0 where

@@ -18,17 +18,19 @@ use Rattle.claim_table.specs.declared.word.Word.TheVariants.{Free, Claimed, Buil
 use Rattle.claim_table.specs.declared.view.Task.{Task}
 use Rattle.claim_table.specs.declared.view.View.{View}
 use Rattle.bulk_base.specs.Totals.{total, At}
-use Rattle.claim_table.specs.Words.{word_of, word_at, is_good, is_bad, is_claimed, is_reading, is_kept_word, is_ignored_word, is_ended, was_claimed}
+use Rattle.claim_table.specs.Words.{word_of, word_at, is_good, is_bad, is_claimed, is_reading, is_kept_word, is_ignored_word, was_claimed}
 use Rattle.claim_table.specs.Told.{Lore, IsRight}
-use Rattle.claim_table.specs.Views.{one, has, held, face, IsSo, IsFound}
+use Rattle.claim_table.specs.Views.{one, held, face, IsSo, IsFound}
 use Rattle.claim_table.specs.Rule.{all_good, some_bad, Rests, Ruled, outcome_word}
-use Rattle.claim_table.specs.Steps.{Mine, after_look, after_claim, after_end, after_skip, after_begin, after_close, Looked, Opened, looks_then, claims_then, ends_then, skips_then, opens_then, shuts_then}
-use Rattle.claim_table.specs.Seats.{AreFitting, knows_all, knows_bad}
-use Rattle.claim_table.specs.Inside.{code_of}
+use Rattle.claim_table.specs.Steps.{Mine, Look, Claim, End, Skip, BeginReading, CloseReading, looks_then, claims_then, ends_then, skips_then, begins_then, closes_then}
+use Rattle.claim_table.specs.Seats.{knows_all, knows_bad}
 use Rattle.bulk_base.proofs.Totals.{total-least}
-use Rattle.claim_table.proofs.Words.{all-more, any-more, clash, all-there, good-not-bad, good-how, kept-good, only-skipped, not-free, there}
+use Rattle.claim_table.proofs.Words.{is_ended, all-more, any-more, clash, all-there, good-not-bad, good-how, kept-good, only-skipped, not-free, there}
 use Rattle.claim_table.proofs.Placed.{Fills, placed}
-use Rattle.claim_table.proofs.Faces.{looks-owed, claims-owed, ends-owed, skips-owed, opens-owed, shuts-owed}
+use Rattle.claim_table.proofs.Faces.{looks-owed, claims-owed, ends-owed, skips-owed, begins-owed, closes-owed}
+use Rattle.bulk_model.specs.Installs.{has}
+use Rattle.claim_table.specs.Changes.{after_look, after_claim, after_end, after_skip, after_begin, after_close}
+use Rattle.claim_table.specs.Inside.{AreFitting, code_of}
 
 abbrev Homes : Type 0
 Homes = List (maybe.Option (Option Outcome))
@@ -149,7 +151,7 @@ module _ (l : Lore) (t : Task) where
     keeps,
     tt,
     looks-ruled s r id n me.0 me.1 inside at share,
-    at-node (λ m. Looked m (word_at s.words n) me (after_look n (word_at s.words n) me.0, me.1)) n (record { found = found-word fitting s r id n me.0 at share; is = refl }),
+    at-node (λ m. Look m (word_at s.words n) me (after_look n (word_at s.words n) me.0, me.1)) n (record { found = found-word fitting s r id n me.0 at share; view = refl; slots = refl }),
   )
 
   pub claims-allowed : AreFitting t.plan t.kept → (slots id n : ℕ) (me : Mine) → n < length t.plan.jobs → 1 ≤ me.0.shares → me.0.holds ≡ None → knows_all t me.0 n ≡ true
@@ -171,16 +173,16 @@ module _ (l : Lore) (t : Task) where
         placed l t s r id n 1 v (after_claim n v) (set s.homes n none) inside at share Free free
             (claims-owed t s.words n v idle (omega arith) (ready-good s r id n v at ready) (subst (λ (x : Word). IsSo x (face v n)) free (r.known id v at n)))
             (lay s.homes n Claimed none (omega arith) refl),
-        at-node (λ m. (slice_index s.words (n + 1) ≢ 0 → Looked m (word_at s.words n) me (after_claim n v, (n, None) ∷ me.1)) × (slice_index s.words (n + 1) ≡ 0 → ◌≡◌ {A = Mine} (after_claim n v, (n, None) ∷ me.1) (after_claim m v, (m, None) ∷ me.1))) n
-            ((λ ne. absurd (ne e)), (λ _. refl)),
+        at-node (λ m. (slice_index s.words (n + 1) ≢ 0 → Look m (word_at s.words n) me (after_claim n v, (n, None) ∷ me.1)) × (slice_index s.words (n + 1) ≡ 0 → Claim m me (after_claim n v, (n, None) ∷ me.1))) n
+            ((λ ne. absurd (ne e)), (λ _. record { view = refl; slots = refl })),
       ))
       (λ ne. (
         after_look n (word_at s.words n) v,
         keeps,
         tt,
         looks-ruled s r id n v me.1 inside at share,
-        at-node (λ m. (slice_index s.words (n + 1) ≢ 0 → Looked m (word_at s.words n) me (after_look n (word_at s.words n) v, me.1)) × (slice_index s.words (n + 1) ≡ 0 → ◌≡◌ {A = Mine} (after_look n (word_at s.words n) v, me.1) (after_claim m v, (m, None) ∷ me.1))) n
-            ((λ _. record { found = found-word fitting s r id n v at share; is = refl }), (λ e. absurd (ne e))),
+        at-node (λ m. (slice_index s.words (n + 1) ≢ 0 → Look m (word_at s.words n) me (after_look n (word_at s.words n) v, me.1)) × (slice_index s.words (n + 1) ≡ 0 → Claim m me (after_look n (word_at s.words n) v, me.1))) n
+            ((λ _. record { found = found-word fitting s r id n v at share; view = refl; slots = refl }), (λ e. absurd (ne e))),
       ))
 
   pub ends-allowed : (slots id n code : ℕ) (me : Mine) (home : Option Outcome) → n < length t.plan.jobs → 1 ≤ me.0.shares → me.0.holds ≡ Some n → me.1 ≡ (n, home) ∷ rest me.1
@@ -200,7 +202,7 @@ module _ (l : Lore) (t : Task) where
             (placed l t s r id n code v (after_end n (word_of code) v) (set s.homes n (some home)) inside at share Claimed from
             (ends-owed t s.words n v (word_of code) fits mine (subst (λ (x : Word). IsSo x (face v n)) from (r.known id v at n)))
             (lay s.homes n (word_of code) (some home) (omega arith) rests)),
-        at-node (λ m. ◌≡◌ {A = Mine} (after_end n (word_of code) v, rest me.1) (after_end m (word_of code) v, rest me.1)) n refl,
+        at-node (λ m. End m (word_of code) me (after_end n (word_of code) v, rest me.1)) n (record { view = refl; slots = refl }),
       )
 
   pub skips-allowed : AreFitting t.plan t.kept → (slots id n : ℕ) (me : Mine) → n < length t.plan.jobs → 1 ≤ me.0.shares → knows_bad t me.0 n ≡ true
@@ -222,8 +224,8 @@ module _ (l : Lore) (t : Task) where
         placed l t s r id n 5 v (after_skip n v) s.homes inside at share Free free
             (skips-owed t s.words n v setback (subst (λ (x : Word). IsSo x (face v n)) free (r.known id v at n)))
             (stay s n Skipped (λ home is. skipped-slot n home (subst (λ (x : Word). Rests l t n x home) free (r.slots n home is)))),
-        at-node (λ m. (slice_index s.words (n + 1) ≢ 0 → ◌≡◌ {A = Mine} (after_skip n v, me.1) (after_look m Skipped v, me.1)) × (slice_index s.words (n + 1) ≡ 0 → ◌≡◌ {A = Mine} (after_skip n v, me.1) (after_skip m v, me.1))) n
-            ((λ ne. absurd (ne e)), (λ _. refl)),
+        at-node (λ m. (slice_index s.words (n + 1) ≢ 0 → Look m Skipped me (after_skip n v, me.1)) × (slice_index s.words (n + 1) ≡ 0 → Skip m me (after_skip n v, me.1))) n
+            ((λ ne. absurd (ne e)), (λ _. record { view = refl; slots = refl })),
       ))
       (λ ne.
       let is : word ≡ Skipped = only-skipped word (not-free (slice_index s.words (n + 1)) ne) unclaimed unkept unignored in (
@@ -231,15 +233,15 @@ module _ (l : Lore) (t : Task) where
         keeps,
         tt,
         looks-ruled s r id n v me.1 inside at share,
-        at-node (λ m. (slice_index s.words (n + 1) ≢ 0 → ◌≡◌ {A = Mine} (after_look n word v, me.1) (after_look m Skipped v, me.1)) × (slice_index s.words (n + 1) ≡ 0 → ◌≡◌ {A = Mine} (after_look n word v, me.1) (after_skip m v, me.1))) n
-            ((λ _. subst (λ (x : Word). ◌≡◌ {A = Mine} (after_look n word v, me.1) (after_look n x v, me.1)) is refl), (λ e. absurd (ne e))),
+        at-node (λ m. (slice_index s.words (n + 1) ≢ 0 → Look m Skipped me (after_look n word v, me.1)) × (slice_index s.words (n + 1) ≡ 0 → Skip m me (after_look n word v, me.1))) n
+            ((λ _. subst (λ (x : Word). Look n x me (after_look n word v, me.1)) is (record { found = found-word fitting s r id n v at share; view = refl; slots = refl })), (λ e. absurd (ne e))),
       ))
 
-  pub opens-allowed : AreFitting t.plan t.kept → (slots id n : ℕ) (me : Mine) → n < length t.plan.jobs → 1 ≤ me.0.shares → me.0.reads ≡ None
-      → Allows (Ruled l t) slots id me (n + 1) (λ m. either (m == 2) 4 m) (opens_then l (n + 1) me)
-  opens-allowed fitting slots id n me inside share idle s r len at small =
+  pub begins-allowed : AreFitting t.plan t.kept → (slots id n : ℕ) (me : Mine) → n < length t.plan.jobs → 1 ≤ me.0.shares → me.0.reads ≡ None
+      → Allows (Ruled l t) slots id me (n + 1) (λ m. either (m == 2) 4 m) (begins_then l (n + 1) me)
+  begins-allowed fitting slots id n me inside share idle s r len at small =
       let v : View = me.0 in
-      exchanged (slice_index s.words (n + 1)) 2 4 (λ m. (w : View) × (a : Act (Option Outcome)) × Valid s.homes me.1 a × Ruled l t (stepped s (n + 1) m id me.1 w a) × opens_then l (n + 1) me (slice_index s.words (n + 1)) (w, carried_after me.1 a))
+      exchanged (slice_index s.words (n + 1)) 2 4 (λ m. (w : View) × (a : Act (Option Outcome)) × Valid s.homes me.1 a × Ruled l t (stepped s (n + 1) m id me.1 w a) × begins_then l (n + 1) me (slice_index s.words (n + 1)) (w, carried_after me.1 a))
       (λ e.
       let is : word_at s.words n ≡ Built = ap word_of e in
       let slot = slot-at s r n inside in
@@ -250,24 +252,24 @@ module _ (l : Lore) (t : Task) where
         takes n (Some (MadePackage made.0)),
         slot.1 ∙ ap some made.1,
         placed l t s r id n 4 v (after_begin n v) (set s.homes n none) inside at share Built is
-            (opens-owed t s.words n v idle (subst (λ (x : Word). IsSo x (face v n)) is (r.known id v at n)))
+            (begins-owed t s.words n v idle (subst (λ (x : Word). IsSo x (face v n)) is (r.known id v at n)))
             (lay s.homes n Reading none (omega arith) refl),
-        at-node (λ m. (slice_index s.words (n + 1) ≢ 2 → Looked m (word_at s.words n) me (after_begin n v, (n, Some (MadePackage made.0)) ∷ me.1)) × (slice_index s.words (n + 1) ≡ 2 → Opened l m me (after_begin n v, (n, Some (MadePackage made.0)) ∷ me.1))) n
-            ((λ ne. absurd (ne e)), (λ _. record { built = made.0; right = right; is = refl })),
+        at-node (λ m. (slice_index s.words (n + 1) ≢ 2 → Look m (word_at s.words n) me (after_begin n v, (n, Some (MadePackage made.0)) ∷ me.1)) × (slice_index s.words (n + 1) ≡ 2 → BeginReading l m me (after_begin n v, (n, Some (MadePackage made.0)) ∷ me.1))) n
+            ((λ ne. absurd (ne e)), (λ _. record { built = made.0; right = right; view = refl; slots = refl })),
       ))
       (λ ne. (
         after_look n (word_at s.words n) v,
         keeps,
         tt,
         looks-ruled s r id n v me.1 inside at share,
-        at-node (λ m. (slice_index s.words (n + 1) ≢ 2 → Looked m (word_at s.words n) me (after_look n (word_at s.words n) v, me.1)) × (slice_index s.words (n + 1) ≡ 2 → Opened l m me (after_look n (word_at s.words n) v, me.1))) n
-            ((λ _. record { found = found-word fitting s r id n v at share; is = refl }), (λ e. absurd (ne e))),
+        at-node (λ m. (slice_index s.words (n + 1) ≢ 2 → Look m (word_at s.words n) me (after_look n (word_at s.words n) v, me.1)) × (slice_index s.words (n + 1) ≡ 2 → BeginReading l m me (after_look n (word_at s.words n) v, me.1))) n
+            ((λ _. record { found = found-word fitting s r id n v at share; view = refl; slots = refl }), (λ e. absurd (ne e))),
       ))
 
-  pub shuts-allowed : (slots id n : ℕ) (me : Mine) (p : PackageView) → n < length t.plan.jobs → 1 ≤ me.0.shares → me.0.reads ≡ Some n → me.1 ≡ (n, Some (MadePackage p)) ∷ rest me.1
+  pub closes-allowed : (slots id n : ℕ) (me : Mine) (p : PackageView) → n < length t.plan.jobs → 1 ≤ me.0.shares → me.0.reads ≡ Some n → me.1 ≡ (n, Some (MadePackage p)) ∷ rest me.1
       → IsRight l t n (MadePackage p)
-      → Allows (Ruled l t) slots id me (n + 1) (λ _. 2) (λ _. shuts_then (n + 1) me 2)
-  shuts-allowed slots id n me p inside share mine slot right s r len at small =
+      → Allows (Ruled l t) slots id me (n + 1) (λ _. 2) (λ _. closes_then (n + 1) me 2)
+  closes-allowed slots id n me p inside share mine slot right s r len at small =
       let v : View = me.0 in
       let size : length s.homes ≡ length t.plan.jobs = r.places in
       let on : one (held v.reads n) ≡ 1 = ap (λ h. one (held h n)) mine ∙ ap one (eq-eqb n n refl) in
@@ -279,9 +281,9 @@ module _ (l : Lore) (t : Task) where
         tt,
         subst (λ (c : List (ℕ × Option Outcome)). Ruled l t (stepped s (n + 1) 2 id c (after_close n v) gives)) (sym slot)
             (placed l t s r id n 2 v (after_close n v) (set s.homes n (some (Some (MadePackage p)))) inside at share Reading from
-            (shuts-owed t s.words n v mine (subst (λ (x : Word). IsSo x (face v n)) from (r.known id v at n)))
+            (closes-owed t s.words n v mine (subst (λ (x : Word). IsSo x (face v n)) from (r.known id v at n)))
             (lay s.homes n Built (some (Some (MadePackage p))) (omega arith) (refl, right))),
-        at-node (λ m. ◌≡◌ {A = Mine} (after_close n v, rest me.1) (after_close m v, rest me.1)) n refl,
+        at-node (λ m. CloseReading m me (after_close n v, rest me.1)) n (record { view = refl; slots = refl }),
       )
 
   pub outcome-rests : (n : ℕ) (o : Outcome) (code : ℕ) → code ≡ code_of o → IsRight l t n o → Rests l t n (word_of code) (some (Some o))

@@ -1,4 +1,4 @@
-use Rattle.std.proofs.Common.{rules, refl, ap, sym, subst, ◌∙◌, ◌≡◌, ◌∷◌, None, true}
+use Rattle.std.proofs.Common.{rules, refl, ap, sym, subst, ◌∙◌, ◌≡◌, true}
 use Rattle.claim_table.specs.declared.view.Task.{Task}
 use Rattle.claim_table.specs.declared.view.View.{View}
 use Rattle.claim_table.specs.Told.{lore, task_of}
@@ -6,9 +6,9 @@ use Rattle.claim_table.specs.Seats.{Sits, Site, knows_all}
 use Rattle.claim_table.specs.declared.word.Word.{Word}
 use Rattle.claim_table.specs.Words.{word_of}
 use Rattle.claim_table.specs.Views.{IsFound}
-use Rattle.claim_table.specs.Steps.{after_claim}
 use Rattle.claim_table.proofs.Stepping.{claims-allowed}
 use Rattle.claim_table.proofs.Resting.{inside, rested-claims, view-after, found-as}
+use Rattle.claim_table.specs.Changes.{after_claim}
 use Rattle.claim_table.proofs.table.Table.claim.Goals as goal
 
 pub compare_exchange-found-requires : goal.compare_exchange-found-requires
@@ -36,8 +36,8 @@ invariant_of-seat-2 g c =
 
 pub returns-clause-ok : goal.returns-clause-ok
 returns-clause-ok g c =
-    view-after (after_claim c.args.n) c.seat.inside.inner.me c.compare_exchange-found.new.seat.me c.args.seat.now.view ((c.args.n, None) ∷ c.seat.inside.inner.me.1) (ap (λ (s : Sits). s.view) c.seat.view_is)
-    ((c.compare_exchange-found.ensures.2 c.args.n refl).1 c.if-found-ne0.false)
+    view-after (after_claim c.args.n) c.seat.inside.inner.me c.compare_exchange-found.new.seat.me c.args.seat.now.view (ap (λ (s : Sits). s.view) c.seat.view_is)
+    ((c.compare_exchange-found.ensures.2 c.args.n refl).1 c.if-found-ne0.false).view
 
 pub returns-then-found-ne0-clause-found : goal.returns-then-found-ne0-clause-found
 returns-then-found-ne0-clause-found g c =

@@ -3,11 +3,11 @@ use Rattle.claim_table.specs.declared.view.Task.{Task}
 use Rattle.claim_table.specs.declared.view.View.{View}
 use Rattle.std.proofs.lemmas.Bool.{eqb-true, eqb-false}
 use Rattle.claim_table.specs.declared.word.Word.TheVariants.{Skipped}
-use Rattle.claim_table.specs.Steps.{after_look, after_skip}
 use Rattle.claim_table.specs.Told.{lore, task_of}
 use Rattle.claim_table.specs.Seats.{Sits, Site, knows_bad}
 use Rattle.claim_table.proofs.Stepping.{skips-allowed}
 use Rattle.claim_table.proofs.Resting.{inside, rested-skips, view-after}
+use Rattle.claim_table.specs.Changes.{after_look, after_skip}
 use Rattle.claim_table.proofs.table.Table.skip.Goals as goal
 
 pub compare_exchange-found-requires : goal.compare_exchange-found-requires
@@ -27,10 +27,10 @@ invariant_of-seat g c = rested-skips c.args.n c.compare_exchange-found.result c.
 
 pub returns-clause-first : goal.returns-clause-first
 returns-clause-first g c hit =
-    view-after (after_skip c.args.n) c.seat.inside.inner.me c.compare_exchange-found.new.seat.me c.args.seat.now.view c.seat.inside.inner.me.1 (ap (λ (s : Sits). s.view) c.seat.view_is)
-    ((c.compare_exchange-found.ensures.2 c.args.n refl).1 (eqb-true c.compare_exchange-found.result 0 hit))
+    view-after (after_skip c.args.n) c.seat.inside.inner.me c.compare_exchange-found.new.seat.me c.args.seat.now.view (ap (λ (s : Sits). s.view) c.seat.view_is)
+    ((c.compare_exchange-found.ensures.2 c.args.n refl).1 (eqb-true c.compare_exchange-found.result 0 hit)).view
 
 pub returns-clause-again : goal.returns-clause-again
 returns-clause-again g c miss =
-    view-after (after_look c.args.n Skipped) c.seat.inside.inner.me c.compare_exchange-found.new.seat.me c.args.seat.now.view c.seat.inside.inner.me.1 (ap (λ (s : Sits). s.view) c.seat.view_is)
-    ((c.compare_exchange-found.ensures.2 c.args.n refl).0 (eqb-false c.compare_exchange-found.result 0 miss))
+    view-after (after_look c.args.n Skipped) c.seat.inside.inner.me c.compare_exchange-found.new.seat.me c.args.seat.now.view (ap (λ (s : Sits). s.view) c.seat.view_is)
+    ((c.compare_exchange-found.ensures.2 c.args.n refl).0 (eqb-false c.compare_exchange-found.result 0 miss)).view
