@@ -51,13 +51,13 @@ pub record CloseReading (n : ℕ) (before after : Mine) : Type 0 where
   pub slots : after.1 ≡ rest before.1
 
 -- one seat becomes two
-pub record SplitOf (v first second : View) : Type 0 where
-  pub first : first ≡ first_part v
-  pub second : second ≡ second_part v
+pub record SplitOf (v a b : View) : Type 0 where
+  pub first : a ≡ first_part v
+  pub second : b ≡ second_part v
 
 -- two seats become one
-pub record JoinOf (v w both : View) : Type 0 where
-  pub both : both ≡ together v w
+pub record JoinOf (v w u : View) : Type 0 where
+  pub both : u ≡ together v w
 
 -- ---- what the steps of the calls tell: of the number found, or stored, at the word behind the spare one and those of
 -- the nodes before

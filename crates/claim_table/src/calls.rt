@@ -124,9 +124,7 @@ impl<M: Ways> Table<M> {
     {
         let Seat { mut inner } = a;
         let Seat { inner: other } = b;
-        self.table
-            .shared
-            .join_seat::<Together>(&mut inner, other);
+        self.table.shared.join_seat::<Together>(&mut inner, other);
         Seat { inner }
     }
 }

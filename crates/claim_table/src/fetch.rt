@@ -94,9 +94,7 @@ impl<M: Ways> Table<M> {
         let outcome = self.table.shared.exchange(inner, n as usize, None);
         let shared = shared_of(&outcome);
         self.table.shared.exchange(inner, n as usize, outcome);
-        self.table
-            .shared
-            .store::<Closes>(inner, n as usize + 1, 2);
+        self.table.shared.store::<Closes>(inner, n as usize + 1, 2);
         shared
     }
 }

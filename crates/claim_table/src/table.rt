@@ -42,7 +42,7 @@ impl<M: Ways> Model for Table<M> {
 
     ghost invariant = { λ t.
         IsSetUp t.table.shared.table_id (task_of t.table.shared.key) t.plan t.kept
-            (vec_capacity t.room)
+        (vec_capacity t.room)
         × (t.room.items ≡ []) };
 }
 
