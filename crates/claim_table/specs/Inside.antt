@@ -19,7 +19,8 @@ pub record AreFitting (plan : PlanView) (kept : KeptPackages) : Type 0 where
   pub closed : (n : ℕ) → is_kept kept n ≡ true → list_all (is_kept kept) (depends plan n) ≡ true
   pub without : (n : ℕ) → is_ignored plan n ≡ true → depends plan n ≡ []
 
--- the table's size is the plan's, it is about this plan and these kept packages, and there is room for the outcomes
+-- the table's size is the plan's, it is about this plan and these kept packages, and there is room
+-- for the outcomes
 pub record IsSetUp (id : TableId) (task : Task) (plan : PlanView) (kept : KeptPackages) (room : ℕ)
     : Type 0 where
   pub words : id.words ≡ length plan.jobs + 1

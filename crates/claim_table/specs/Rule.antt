@@ -1,4 +1,5 @@
--- The rule of a table: what holds of words, slots and views between any two steps (docs/CLAIM_TABLE.md).
+-- The rule of a table: what holds of words, slots and views between any two steps
+-- (docs/CLAIM_TABLE.md).
 use Rattle.std.specs.Prelude.{◌≡◌, ℕ, ◌+◌, ◌≤◌, Bool, true, List, [], length, slice_index, Option, Some, None}
 use Rattle.std.specs.List.{list_all, list_any}
 use mathlib.Core.Option.{none, some}
@@ -58,8 +59,8 @@ abbrev pub outcome_word : Outcome → Word
 outcome_word (MadePackage p) = Built
 outcome_word (FailedBuild phase code) = Failed
 
--- what the slot of a node holds at this word: nothing while it is out with a seat, else a right outcome of that word,
--- or None
+-- what the slot of a node holds at this word: nothing while it is out with a seat, else a right
+-- outcome of that word, or None
 abbrev pub Rests : Lore → Task → ℕ → Word → maybe.Option (Option Outcome) → Type 0
 Rests l t n word none = is_out word ≡ true
 Rests l t n word (some None) = is_bare word ≡ true
@@ -76,7 +77,8 @@ pub record Ruled (l : Lore) (t : Task) (s : State (Option Outcome) View) : Type 
   -- a word is Kept exactly where the node is kept, and Ignored exactly where the plan ignores it
   pub kept : (n : ℕ) → is_kept_word (word_at s.words n) ≡ is_kept t.kept n
   pub ignored : (n : ℕ) → is_ignored_word (word_at s.words n) ≡ is_ignored t.plan n
-  -- a node is Claimed exactly where a view holds it, and Reading exactly where a view reads it; at most one view does
+  -- a node is Claimed exactly where a view holds it, and Reading exactly where a view reads it; at
+  -- most one view does
   pub holders : (n : ℕ) → total (λ v. one (face v n).holds) s.views
       ≡ one (is_claimed (word_at s.words n))
   pub readers : (n : ℕ) → total (λ v. one (face v n).reads) s.views
@@ -88,7 +90,8 @@ pub record Ruled (l : Lore) (t : Task) (s : State (Option Outcome) View) : Type 
   -- a node that was claimed stands in the claims of one view, once; another in none
   pub claimers : (n : ℕ) → total (λ v. (face v n).claims) s.views
       ≡ one (was_claimed (word_at s.words n))
-  -- what a view knows as built, bad and given up is so; what it claimed it holds or knows as one of these
+  -- what a view knows as built, bad and given up is so; what it claimed it holds or knows as one of
+  -- these
   pub known : (i : ℕ) (v : View) → At s.views i v → (n : ℕ) → IsSo (word_at s.words n) (face v n)
   -- a slot at home holds what its word says
   pub slots : (n : ℕ) (home : maybe.Option (Option Outcome)) → get_elem? s.homes n ≡ some home

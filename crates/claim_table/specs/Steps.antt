@@ -1,4 +1,5 @@
--- The eight kinds of steps: what each leaves of a seat's view, and of the slots that are out with the seat.
+-- The eight kinds of steps: what each leaves of a seat's view, and of the slots that are out with
+-- the seat.
 use Rattle.std.specs.Prelude.{◌≡◌, ◌≢◌, ℕ, ◌+◌, ◌∷◌, Option, Some, None}
 use Rattle.atomic_table.specs.Table.{Me, rest}
 use Rattle.bulk_model.specs.declared.outcome.Outcome.{Outcome}
@@ -59,8 +60,8 @@ pub record SplitOf (v a b : View) : Type 0 where
 pub record JoinOf (v w u : View) : Type 0 where
   pub both : u ≡ together v w
 
--- ---- what the steps of the calls tell: of the number found, or stored, at the word behind the spare one and those of
--- the nodes before
+-- ---- what the steps of the calls tell: of the number found, or stored, at the word behind the
+-- spare one and those of the nodes before
 
 abbrev pub AtNode : ℕ → (ℕ → Type 0) → Type 0
 AtNode place P = (n : ℕ) → place ≡ n + 1 → P n

@@ -17,6 +17,7 @@ lore tells runs = record { tells = tells; runs = runs }
 abbrev pub task_of : Key → Task
 task_of key = record { plan = key.plan.value; kept = key.kept.value }
 
--- an outcome that a node may have: a built package has its job's fields; where rooms tell it is what one builder gives
+-- an outcome that a node may have: a built package has its job's fields; where rooms tell it is
+-- what one builder gives
 abbrev pub IsRight : Lore → Task → ℕ → Outcome → Type 0
 IsRight l t n outcome = IsOutcomeAt l.tells l.runs t.plan t.kept n outcome

@@ -21,7 +21,8 @@ abbrev pub times : List ℕ → ℕ → ℕ
 times [] n = 0
 times (m ∷ ms) n = if m == n then suc (times ms n) else times ms n
 
--- whether a view holds a node, reads it, knows it as built or bad and gave it up, and how often it claimed it
+-- whether a view holds a node, reads it, knows it as built or bad and gave it up, and how often it
+-- claimed it
 pub record Face : Type 0 where
   pub holds : Bool
   pub reads : Bool

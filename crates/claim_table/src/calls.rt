@@ -22,7 +22,8 @@ pub struct Taken {
 }
 
 impl<M: Ways> Table<M> {
-    /// The word of a node at this step. From then on the seat knows the node as built or bad, where it is.
+    /// The word of a node at this step. From then on the seat knows the node as built or bad, where
+    /// it is.
     ///
     /// One step, a load. Takes no memory.
     pub fn look(&self, seat: &mut Seat, n: u32) -> Word
@@ -39,9 +40,9 @@ impl<M: Ways> Table<M> {
         )
     }
 
-    /// Claims a node that is neither kept nor ignored and whose dependencies are all kept or known as built, for a seat
-    /// that holds no claim. Taken exactly where the node was not free at this step; what was found is known then, as by
-    /// a look.
+    /// Claims a node that is neither kept nor ignored and whose dependencies are all kept or known
+    /// as built, for a seat that holds no claim. Taken exactly where the node was not free at this
+    /// step; what was found is known then, as by a look.
     ///
     /// One step, an exchange. Takes no memory.
     pub fn claim(&self, seat: &mut Seat, n: u32) -> Result<Ticket, Taken>
@@ -76,8 +77,8 @@ impl<M: Ways> Table<M> {
         })
     }
 
-    /// Skips a node of which the seat knows some dependency as bad: true where the node was free, false exactly where it
-    /// was skipped already. The seat knows the node as bad from then on.
+    /// Skips a node of which the seat knows some dependency as bad: true where the node was free,
+    /// false exactly where it was skipped already. The seat knows the node as bad from then on.
     ///
     /// One step, an exchange. Takes no memory.
     pub fn skip(&self, seat: &mut Seat, n: u32) -> bool
@@ -95,8 +96,9 @@ impl<M: Ways> Table<M> {
         found == 0
     }
 
-    /// Two seats of one that holds no claim and has two shares at least. The first keeps all shares but one and what it
-    /// claimed. The second has one share, knows what the first knows, and has claimed nothing.
+    /// Two seats of one that holds no claim and has two shares at least. The first keeps all shares
+    /// but one and what it claimed. The second has one share, knows what the first knows, and has
+    /// claimed nothing.
     ///
     /// Takes no memory.
     pub fn split(&self, seat: Seat) -> (Seat, Seat)

@@ -24,8 +24,9 @@ fn code_of(outcome: &Outcome) -> u64
 }
 
 impl<M: Ways> Table<M> {
-    /// Ends a claim of the seat with what came of the node: a failure, or a package with the fields of the node's job;
-    /// where rooms tell what commands do, what one builder gives at this node. The node is Built or Failed then.
+    /// Ends a claim of the seat with what came of the node: a failure, or a package with the fields
+    /// of the node's job; where rooms tell what commands do, what one builder gives at this node.
+    /// The node is Built or Failed then.
     ///
     /// One step, a store. Takes no memory.
     pub fn end(&self, seat: &mut Seat, ticket: Ticket, outcome: Outcome)
@@ -69,9 +70,9 @@ impl<M: Ways> Table<M> {
             .store::<Ends>(&mut seat.inner, node as usize + 1, 8);
     }
 
-    /// The outcomes of a table whose seats were all joined into one that holds no claim. Just the nodes that were claimed
-    /// and not given up have one, each was claimed once, and they fit the plan, so that one builder can build what is
-    /// left.
+    /// The outcomes of a table whose seats were all joined into one that holds no claim. Just the
+    /// nodes that were claimed and not given up have one, each was claimed once, and they fit the
+    /// plan, so that one builder can build what is left.
     ///
     /// A node costs one move. Takes no memory.
     pub fn close(self, seat: Seat) -> Partial

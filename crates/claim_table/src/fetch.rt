@@ -52,11 +52,13 @@ fn shared_of(outcome: &Option<Outcome>) -> Result<Shared<Package>, NoMemory>
 }
 
 impl<M: Ways> Table<M> {
-    /// The package of a node that was built, by a reading that is begun and closed; the seat knows the node as built from
-    /// then on. Busy exactly where the word at the first step was Reading, NotThere exactly where it was neither Built nor
-    /// Reading; both leave what a look leaves. NoMemory where the package could not be shared, after the reading was closed.
+    /// The package of a node that was built, by a reading that is begun and closed; the seat knows
+    /// the node as built from then on. Busy exactly where the word at the first step was Reading,
+    /// NotThere exactly where it was neither Built nor Reading; both leave what a look leaves.
+    /// NoMemory where the package could not be shared, after the reading was closed.
     ///
-    /// Two steps, one where it answers Busy or NotThere. Takes no memory but for the holder that it hands out.
+    /// Two steps, one where it answers Busy or NotThere. Takes no memory but for the holder that it
+    /// hands out.
     pub fn fetch(&self, seat: &mut Seat, n: u32) -> Result<Shared<Package>, FetchError>
         requires seat { IsOf self.now seat.old }
         requires node { n < length self.now.task.plan.jobs }

@@ -1,4 +1,4 @@
-//! The table from which builders claim the nodes of a plan, and in which they leave what came of them.
+//! The table from which builders claim nodes, and in which they leave what came of them.
 #![tactic(auto)]
 
 mod calls;

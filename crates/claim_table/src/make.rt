@@ -55,11 +55,13 @@ fn first_words(alloc: Global, plan: &Plan, kept: &Kept) -> Result<Vec<u64>, NoMe
 }
 
 impl<M: Ways> Table<M> {
-    /// A table for a plan and the packages that are kept, and its first seat, which has all shares and knows nothing.
-    /// Kept nodes are Kept from then on, ignored ones Ignored, and all others Free.
+    /// A table for a plan and the packages that are kept, and its first seat, which has all shares
+    /// and knows nothing. Kept nodes are Kept from then on, ignored ones Ignored, and all others
+    /// Free.
     ///
-    /// NoMemory for want of memory alone. All that the table ever needs is reserved here: no other call of it takes
-    /// memory, but for the holder that `fetch` hands out. A node costs a word, a slot and a place among the outcomes.
+    /// NoMemory for want of memory alone. All that the table ever needs is reserved here: no other
+    /// call of it takes memory, but for the holder that `fetch` hands out. A node costs a word, a
+    /// slot and a place among the outcomes.
     pub fn make(
         alloc: Global,
         plan: Shared<Plan>,

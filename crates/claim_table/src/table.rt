@@ -10,11 +10,12 @@ use std::alloc::Global;
 use std::marker::Model;
 use std::snapshot::Snapshot;
 
-/// A table of a plan's nodes: from it builders claim nodes, each once, and in it they leave what came of them. Builders
-/// share it by `&` and step with seats of their own. Any number of steps at once keep its rule (docs/CLAIM_TABLE.md).
+/// A table of a plan's nodes: from it builders claim nodes, each once, and in it they leave what
+/// came of them. Builders share it by `&` and step with seats of their own. Any number of steps at
+/// once keep its rule (docs/CLAIM_TABLE.md).
 ///
-/// M says what rooms tell; where they tell, an outcome in the table is what one builder gives. Contracts see which table it
-/// is, and what it is about. A table is not dropped: `close` ends it.
+/// M says what rooms tell; where they tell, an outcome in the table is what one builder gives.
+/// Contracts see which table it is, and what it is about. A table is not dropped: `close` ends it.
 pub struct Table<M: Ways> {
     pub(crate) table: AtomicTable<Option<Outcome>, View, Key, Rule<M>, Global>,
     pub(crate) plan: Shared<Plan>,
@@ -46,8 +47,8 @@ impl<M: Ways> Model for Table<M> {
         × (t.room.items ≡ []) };
 }
 
-/// A builder's seat at a table, with which it steps. Contracts see which table it is of, and what the seat knows. A seat
-/// is not dropped: `join` puts it into another, and `close` takes the last.
+/// A builder's seat at a table, with which it steps. Contracts see which table it is of, and what
+/// the seat knows. A seat is not dropped: `join` puts it into another, and `close` takes the last.
 pub struct Seat {
     pub(crate) inner: TableSeat<Option<Outcome>, View>,
 }
@@ -68,8 +69,8 @@ impl Model for Seat {
     ghost invariant = { λ s. IsRested s.inner.me };
 }
 
-/// A claim that has to be ended, by `end` or `drop_claim`. Contracts see its node, which is one of the plan, and what its
-/// table is about.
+/// A claim that has to be ended, by `end` or `drop_claim`. Contracts see its node, which is one of
+/// the plan, and what its table is about.
 pub struct Ticket {
     pub(crate) node: u32,
     pub(crate) plan: Snapshot<Plan>,
