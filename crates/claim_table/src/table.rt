@@ -1,5 +1,5 @@
 // The table, its seats and its tickets.
-ghost use Rattle.std.specs.Prelude.{◌≡◌};
+ghost use Rattle.std.specs.Prelude.{◌≡◌, ◌<◌, length};
 
 use crate::rule::Rule;
 use crate::view::{Key, View};
@@ -96,9 +96,10 @@ impl Model for Ticket {
 }
 
 impl Ticket {
-    /// The claimed node.
+    /// The claimed node, which is one of the plan. Takes no memory.
     pub fn node(&self) -> u32
-        ensures { result ≡ self.now.node }
+        ensures exact { result ≡ self.now.node }
+        ensures inside { result < length self.now.task.plan.jobs }
     {
         self.node
     }
