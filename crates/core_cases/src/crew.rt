@@ -73,14 +73,109 @@ fn work_all<R: Threads + Sync>(
 {
     let each = |_: usize, worker: &mut Worker|
         requires about { IsAbout table.now plan.now kept.now }
-        requires seat { IsIdle table.now worker.now.seat.view.shares worker.now.seat }
-        ensures seat { IsIdle table.now worker.entry.now.seat.view.shares worker.exit.now.seat }
+        requires seat { IsIdle table.now worker.old.seat.view.shares worker.old.seat }
+        ensures seat { IsIdle table.entry.now worker.old.seat.view.shares worker.new.seat }
     { work(alloc, table, plan, kept, worker) };
     thread::for_each_mut(rt, crew, 4, &each);
 }
 
-fn worker(seat: Seat) -> Worker
+fn at_work(seat: Seat) -> Worker
     ensures { result.seat ≡ seat }
 {
     Worker { seat, built: 0 }
+}
+
+/// Two workers as one.
+fn as_one(table: &Table<Untold>, a: Worker, b: Worker) -> Worker
+    requires a { IsIdle table.now a.seat.view.shares a.seat }
+    requires b { IsIdle table.now b.seat.view.shares b.seat }
+    ensures { IsIdle table.now (a.seat.view.shares + b.seat.view.shares) result.seat }
+{
+    let Worker { seat, built } = a;
+    let Worker {
+        seat: other,
+        built: more,
+    } = b;
+    Worker {
+        seat: table.join(seat, other),
+        built: built.wrapping_add(more),
+    }
+}
+
+/// The outcomes of a table for which four workers went over the nodes, and how many nodes they built.
+fn crew_of<R: Threads + Sync>(
+    rt: &R,
+    alloc: Global,
+    table: Table<Untold>,
+    plan: &Plan,
+    kept: &Kept,
+    seat: Seat,
+) -> (Partial, u64)
+    requires about { IsAbout table plan.now kept.now }
+    requires seat { IsIdle table all_shares seat }
+{
+    let (a, b) = table.split(seat);
+    let (a, c) = table.split(a);
+    let (a, d) = table.split(a);
+    let mut crew = [at_work(a), at_work(b), at_work(c), at_work(d)];
+    work_all(rt, alloc, &table, plan, kept, crew.as_mut_slice());
+    let [a, b, c, d] = crew;
+    let first = as_one(&table, a, b);
+    let second = as_one(&table, c, d);
+    let Worker { seat, built } = as_one(&table, first, second);
+    (table.close(seat), built)
+}
+
+fn has_package(outcome: &Option<Outcome>) -> bool {
+    matches!(outcome, Some(Outcome::Built(_)))
+}
+
+fn push_crew(
+    alloc: Global,
+    partial: &Partial,
+    built: u64,
+    out: &mut Vec<u8>,
+) -> Result<(), NoMemory> {
+    push_number(alloc, out, built)?;
+    push_str(out, " ended as built; ")?;
+    let there = partial
+        .outcomes
+        .iter()
+        .filter(|outcome| has_package(outcome))
+        .count();
+    push_number(alloc, out, there as u64)?;
+    push_str(out, " packages")
+}
+
+fn push_built<R: Threads + Sync>(
+    rt: &R,
+    alloc: Global,
+    plan: Plan,
+    kept: Kept,
+    out: &mut Vec<u8>,
+) -> Result<(), NoMemory>
+    requires { FitsKept plan kept }
+{
+    let plan = Shared::new(alloc, plan)?;
+    let kept = Shared::new(alloc, kept)?;
+    let (table, seat) = Table::<Untold>::make(alloc, plan.share()?, kept.share()?)?;
+    let (partial, built) = crew_of(rt, alloc, table, plan.get(), kept.get(), seat);
+    push_crew(alloc, &partial, built, out)
+}
+
+/// Four workers over a chain, a fan or groups of so many nodes: how many nodes they ended as built, all
+/// together, and how many packages the table has then.
+pub(crate) fn answer_crew<R: Threads + Sync>(
+    rt: &R,
+    alloc: Global,
+    shape: &str,
+    count: &str,
+    out: &mut Vec<u8>,
+) -> Result<(), CaseError> {
+    let plan = plan_in(alloc, shape, count)?;
+    let kept = none_kept(alloc, &plan)?;
+    if !fits_kept(&plan, &kept) {
+        return Err(CaseError::Unfit);
+    }
+    Ok(push_built(rt, alloc, plan, kept, out)?)
 }
