@@ -1,5 +1,5 @@
 -- What a view becomes by each kind of step.
-use Rattle.std.specs.Prelude.{ℕ, suc, ◌+◌, ◌-◌, Bool, List, [], ◌∷◌, ◌++◌, Option, Some, None, if◌then◌else◌}
+use Rattle.std.specs.Prelude.{ℕ, suc, ◌+◌, ◌-◌, Bool, List, [], ◌∷◌, ◌++◌, Some, None, if◌then◌else◌}
 use Rattle.claim_table.specs.declared.word.Word.{Word}
 use Rattle.claim_table.specs.declared.word.Word.TheVariants.{Free, Claimed, Built, Reading}
 use Rattle.claim_table.specs.declared.view.View.{View}
