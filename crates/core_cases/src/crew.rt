@@ -1,8 +1,7 @@
 // Four seats at a claim table, each in a thread of its own.
-ghost use Rattle.std.specs.Prelude.{◌≡◌, ◌+◌, ◌<◌, length, slice_index_or, All, None};
+ghost use Rattle.std.specs.Prelude.{◌≡◌, ◌+◌, ◌<◌, length, slice_index_or, All};
 ghost use Rattle.bulk_model.specs.Fit.{FitsKept};
 ghost use Rattle.claim_table.specs.Rule.{all_shares};
-ghost use Rattle.claim_table.specs.Seats.{IsOf};
 ghost use Rattle.core_cases.specs.Seating.{IsAbout, IsIdle};
 
 use crate::kept::fits_kept;

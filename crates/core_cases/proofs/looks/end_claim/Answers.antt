@@ -1,6 +1,5 @@
-use Rattle.std.proofs.Common.{[], ap, sym, subst}
+use Rattle.std.proofs.Common.{[], sym}
 use Rattle.std.proofs.lemmas.Bool.{true≢false}
-use Rattle.bulk_model.specs.Baked.{IsOfJob}
 use Rattle.model_laws.proofs.Building.{outcome_of_job}
 use Rattle.core_cases.proofs.looks.end_claim.Goals as goal
 
