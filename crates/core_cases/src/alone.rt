@@ -24,7 +24,7 @@ pub(crate) fn fault_of(error: Outer) -> CaseError {
 }
 
 /// The plan of written nodes.
-fn plan_from(
+pub(crate) fn plan_from(
     alloc: Global,
     jobs: Jobs,
     edges: EdgeLists,

@@ -9,13 +9,13 @@ ghost use Rattle.core_cases.specs.Testing.{may_keep, may_be_kept, may_be_given};
 
 use bulk_model::{Edge, Job, Kept, Outcome, Package, Plan};
 
-fn is_kept(kept: &Kept, d: usize) -> bool
+pub(crate) fn is_kept(kept: &Kept, d: usize) -> bool
     ensures { result ≡ is_kept kept.now d }
 {
     d < kept.packages.len() && kept.packages.as_slice()[d].is_some()
 }
 
-fn is_ignored(plan: &Plan, n: usize) -> bool
+pub(crate) fn is_ignored(plan: &Plan, n: usize) -> bool
     requires { n < length plan.now.jobs }
     ensures { result ≡ is_ignored plan.now n }
 {

@@ -12,7 +12,7 @@ use bulk_model::{EdgeLists, Kept, Plan, Results};
 use case_text::{CaseError, number_of, push_number, push_str, push_text};
 use std::alloc::Global;
 
-fn none_kept(alloc: Global, plan: &Plan) -> Result<Kept, NoMemory> {
+pub(crate) fn none_kept(alloc: Global, plan: &Plan) -> Result<Kept, NoMemory> {
     let mut packages = Sequence::new(alloc);
     for _ in 0..plan.jobs.len() {
         packages.push(None)?;
@@ -85,7 +85,7 @@ fn edges_of(alloc: Global, shape: &str, count: u32) -> Result<EdgeLists, CaseErr
     }
 }
 
-fn plan_in(alloc: Global, shape: &str, count: &str) -> Result<Plan, CaseError> {
+pub(crate) fn plan_in(alloc: Global, shape: &str, count: &str) -> Result<Plan, CaseError> {
     let count = number_of(count)?.min(50_000) as u32;
     let edges = edges_of(alloc, shape, count)?;
     let marks = no_marks(alloc, edges.len())?;
