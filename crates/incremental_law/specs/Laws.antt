@@ -1,0 +1,76 @@
+-- The laws.
+use Rattle.std.specs.Prelude.{◌≡◌, ℕ, Bool, false, ◌<◌, ◌⊎◌, List, [], ◌++◌, map, Contains, IsTrue}
+use Rattle.bulk_base.specs.declared.file.FileItem.{FileItem}
+use Rattle.bulk_model.specs.declared.plan.Kept.{Kept as KeptPackages}
+use Rattle.bulk_model.specs.declared.results.Status.TheVariants.{Built}
+use Rattle.bulk_model.specs.Bake.{Runs}
+use Rattle.bulk_model.specs.PlanFacts.{IsPlan}
+use Rattle.bulk_model.specs.PlanView.{PlanView, count}
+use Rattle.bulk_model.specs.Recipe.{recipe}
+use Rattle.bulk_model.specs.Results.{bakes_by, status_at}
+use Rattle.bulk_model.specs.Sound.{Recipe, recipe_of, has_all, IsClosed, IsWithin, HasNames, IsSound}
+use Rattle.bulk_model.specs.Trees.{IsOrderly, IsTree, IsOfTree}
+use Rattle.bulk_model.specs.Views.{JobView, PackageView}
+use Rattle.stale_check.specs.Fresh.{fresh}
+use Rattle.incremental_law.specs.Stores.{HasItsJob, IsStore, kept_by}
+use Rattle.incremental_law.specs.Clean.{AreMade, IsAsClean}
+use Rattle.incremental_law.specs.Saves.{AreOfResults, AreSaves}
+
+-- what is kept counts as built
+abbrev pub KeptIsBuilt : Type 0
+KeptIsBuilt =
+    (runs : Runs) (plan : PlanView) (kept : KeptPackages) → IsPlan plan
+    → AreMade runs plan kept → IsAsClean runs plan kept
+
+-- what passes leave at a plan's nodes is what the nodes' own jobs give over what the plan installs
+abbrev pub FreshIsMade : Type 0
+FreshIsMade =
+    (runs : Runs) (table : List Recipe) (plan : PlanView) (tree : List JobView)
+    (own : PackageView → Bool) (members : List PackageView)
+    → IsStore runs table plan tree own members
+    → AreMade runs plan (kept_by plan own members)
+
+-- a run over a store comes to what a run over an empty one comes to
+abbrev pub IncrementalIsClean : Type 0
+IncrementalIsClean =
+    (runs : Runs) (table : List Recipe) (plan : PlanView) (tree : List JobView)
+    (own : PackageView → Bool) (members : List PackageView)
+    → IsStore runs table plan tree own members
+    → IsAsClean runs plan (kept_by plan own members)
+
+-- a built package may be added to members that have its dependencies
+abbrev pub OneMoreStaysSound : Type 0
+OneMoreStaysSound =
+    (runs : Runs) (table : List Recipe) (plan : PlanView) (tree : List JobView)
+    (own : PackageView → Bool) (kept : KeptPackages) (members more : List PackageView) (n : ℕ)
+    (p : PackageView)
+    → IsStore runs table plan tree own members → AreMade runs plan kept → IsClosed members
+    → n < count plan → status_at (bakes_by runs plan) plan kept n ≡ Built p
+    → ((q : PackageView) → Contains more q → Contains members q ⊎ (q ≡ p))
+    → IsWithin members more → Contains more p
+    → HasNames more → AreOfResults runs plan kept more → IsTrue (has_all more p)
+    → IsSound runs table more × IsClosed more
+
+-- after each save the store is sound, and each package has its dependencies
+abbrev pub SavesStaySound : Type 0
+SavesStaySound =
+    (runs : Runs) (table : List Recipe) (plan : PlanView) (tree : List JobView)
+    (own : PackageView → Bool) (members saved : List PackageView)
+    → IsStore runs table plan tree own members
+    → AreSaves runs plan (kept_by plan own members) (fresh own members) saved
+    → IsSound runs table (saved ++ fresh own members) × IsClosed (saved ++ fresh own members)
+
+-- a table of a tree's own jobs
+abbrev pub table_of : List FileItem → List JobView → List Recipe
+table_of base tree = map (recipe_of base) tree
+
+-- an empty store is sound for every table, and a table can be made of a tree's own jobs where no two
+-- of their recipes share a digest
+abbrev pub EmptyIsStore : Type 0
+EmptyIsStore =
+    (runs : Runs) (plan : PlanView) (tree : List JobView) (own : PackageView → Bool)
+    → IsPlan plan → IsOrderly plan → IsTree tree → IsOfTree plan tree
+    → ((a b : JobView) → Contains tree a → Contains tree b
+    → recipe plan.base a ≡ recipe plan.base b → a ≡ b)
+    → ((p : PackageView) → own p ≡ false → HasItsJob tree plan.base p)
+    → IsStore runs (table_of plan.base tree) plan tree own []

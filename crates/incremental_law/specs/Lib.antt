@@ -1,0 +1,4 @@
+pub mod Stores
+pub mod Clean
+pub mod Saves
+pub mod Laws

@@ -1,0 +1,43 @@
+// Stores over plans.
+ghost use Rattle.incremental_law.specs.Laws.{
+  KeptIsBuilt,
+  FreshIsMade,
+  IncrementalIsClean,
+  OneMoreStaysSound,
+  SavesStaySound,
+  EmptyIsStore,
+};
+
+/// Where each kept package is what its job gives over what is kept, a run that counts what it keeps
+/// as built comes to what a run that keeps nothing comes to, node by node.
+pub fn kept_is_built()
+    ensures { KeptIsBuilt }
+{}
+
+/// What passes leave of a sound store at a plan's nodes is what the nodes' own jobs give over what
+/// the plan installs for them.
+pub fn fresh_is_made()
+    ensures { FreshIsMade }
+{}
+
+/// So a run over a sound store comes to what a run over an empty one comes to, node by node.
+pub fn incremental_is_clean()
+    ensures { IncrementalIsClean }
+{}
+
+/// A package that a run built stays sound beside members that have its dependencies.
+pub fn one_more_stays_sound()
+    ensures { OneMoreStaysSound }
+{}
+
+/// What passes leave of a sound store, and the packages that a run built, saved one after another with
+/// dependencies first, are sound and closed after each save.
+pub fn saves_stay_sound()
+    ensures { SavesStaySound }
+{}
+
+/// An empty store is sound for every table, and a table can be made of a tree's own jobs where no two
+/// of their recipes share a digest.
+pub fn empty_is_store()
+    ensures { EmptyIsStore }
+{}

@@ -1,0 +1,10 @@
+//! Laws of incremental runs, each the contract of a function that does nothing: what a store keeps is
+//! what a clean run builds, and a store stays sound while a run changes it.
+#![tactic(auto)]
+
+mod laws;
+
+pub use laws::{
+    empty_is_store, fresh_is_made, incremental_is_clean, kept_is_built, one_more_stays_sound,
+    saves_stay_sound,
+};
