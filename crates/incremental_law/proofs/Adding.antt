@@ -58,10 +58,10 @@ pub record Comes (plan : PlanView) (n : ℕ) (p : PackageView) : Type 0 where
 abbrev pub res : Runs → PlanView → KeptPackages → ℕ → Status
 res runs plan kept n = status_at (bakes_by runs plan) plan kept n
 
-abbrev packages_of : Runs → PlanView → KeptPackages → ℕ → List PackageView
+abbrev pub packages_of : Runs → PlanView → KeptPackages → ℕ → List PackageView
 packages_of runs plan kept n = filter_map (λ m. package_in (res runs plan kept m)) (installs plan n)
 
-built_is : (runs : Runs) (plan : PlanView) (kept : KeptPackages) → IsPlan plan → (n : ℕ) (p : PackageView) → n < count plan → res runs plan kept n ≡ Built p
+pub built_is : (runs : Runs) (plan : PlanView) (kept : KeptPackages) → IsPlan plan → (n : ℕ) (p : PackageView) → n < count plan → res runs plan kept n ≡ Built p
     → IsOf (is_ignored plan n) (bake runs plan.base (job_at plan n) (packages_of runs plan kept n)) p
 built_is runs plan kept is_plan n p l built =
     of_built (kept_at kept n) (is_ignored plan n) (list_all (λ m. is_good (res runs plan kept m)) (depends plan n)) (bake runs plan.base (job_at plan n) (packages_of runs plan kept n)) p
@@ -72,6 +72,15 @@ built_says runs plan kept is_plan n p l built =
     let new = built_is runs plan kept is_plan n p l built in
     record { free = new.free; says = says_job runs plan.base (job_at plan n) (packages_of runs plan kept n) p new.gives }
 
+-- what has a package at a node says the node's job
+pub package_says : (runs : Runs) (plan : PlanView) (kept : KeptPackages) → IsPlan plan → AreMade runs plan kept → (n : ℕ) (q : PackageView) → n < count plan → package_in (res runs plan kept n) ≡ Some q → Comes plan n q
+package_says runs plan kept is_plan made n q l e =
+    elim (of_package (kept_at kept n) (is_ignored plan n) (list_all (λ m. is_good (res runs plan kept m)) (depends plan n)) (bake runs plan.base (job_at plan n) (packages_of runs plan kept n)) q
+      (ap package_in (sym (results_unfold (bakes_by runs plan) plan kept is_plan n l)) ∙ e)) [
+      | inl k ↦ record { free = made.free n q l k; says = says_job runs plan.base (job_at plan n) (filter_map (kept_at kept) (installs plan n)) q (made.made n q l k) }
+      | inr f ↦ record { free = f.free; says = says_job runs plan.base (job_at plan n) (packages_of runs plan kept n) q f.gives }
+    ]
+
 module _ (runs : Runs) (table : List Recipe) (plan : PlanView) (tree : List JobView) (own : PackageView → Bool) (kept : KeptPackages) (members more : List PackageView) (n : ℕ) (p : PackageView)
     (store : IsStore runs table plan tree own members) (made : AreMade runs plan kept) (closed : IsClosed members)
     (l : n < count plan) (built : res runs plan kept n ≡ Built p)
@@ -80,16 +89,8 @@ module _ (runs : Runs) (table : List Recipe) (plan : PlanView) (tree : List JobV
   abbrev packages : ℕ → List PackageView
   packages d = packages_of runs plan kept d
 
-  abbrev good : ℕ → Bool
-  good d = list_all (λ m. is_good (res runs plan kept m)) (depends plan d)
-
   comes : (d : ℕ) (q : PackageView) → d < count plan → Contains more q → node_of_package q ≡ node_at plan d → Comes plan d q
-  comes d q b c e =
-      elim (of_package (kept_at kept d) (is_ignored plan d) (good d) (bake runs plan.base (job_at plan d) (packages d)) q
-        (ap package_in (sym (results_unfold (bakes_by runs plan) plan kept store.is_plan d b)) ∙ of d q b c e)) [
-        | inl k ↦ record { free = made.free d q b k; says = says_job runs plan.base (job_at plan d) (filter_map (kept_at kept) (installs plan d)) q (made.made d q b k) }
-        | inr f ↦ record { free = f.free; says = says_job runs plan.base (job_at plan d) (packages d) q f.gives }
-      ]
+  comes d q b c e = package_says runs plan kept store.is_plan made d q b (of d q b c e)
 
   placed : ArePlaced plan more
   placed = record {

@@ -5,4 +5,6 @@ pub mod Matching
 pub mod Making
 pub mod Adding
 pub mod Saving
+pub mod Recording
+pub mod Running
 pub mod Beginning

@@ -31,7 +31,7 @@ use Rattle.incremental_law.proofs.Rising.{IsBefore, before_from}
 never_itself : (a : List ℕ) → IsBefore a a → ⊥
 never_itself a h = let no : Less ≡ Greater = sym h ∙ nat_list_cmp_total.antisymm a a ∙ ap ordering_reverse h in cc
 
-same_node : (plan : PlanView) → IsOrderly plan → (a b : ℕ) → a < count plan → b < count plan → node_at plan a ≡ node_at plan b → a ≡ b
+pub same_node : (plan : PlanView) → IsOrderly plan → (a b : ℕ) → a < count plan → b < count plan → node_at plan a ≡ node_at plan b → a ≡ b
 same_node plan orderly a b l m e =
     elim (cases_order a b) [
       | inl same ↦ same
@@ -48,19 +48,19 @@ module _ (runs : Runs) (table : List Recipe) (plan : PlanView) (tree : List JobV
   abbrev left : List PackageView
   left = fresh own members
 
-  record JobOf (p : PackageView) : Type 0 where
-    job : JobView
-    is : Contains tree job
-    node : node_of_job job ≡ node_of_package p
-    name : job.name ≡ p.name
+  pub record JobOf (p : PackageView) : Type 0 where
+    pub job : JobView
+    pub is : Contains tree job
+    pub node : node_of_job job ≡ node_of_package p
+    pub name : job.name ≡ p.name
 
   -- what holds after each save
-  record Holds (now : List PackageView) : Type 0 where
-    sound : IsSound runs table now
-    closed : IsClosed now
-    names : HasNames now
-    of : AreOfResults runs plan kept now
-    jobs : (p : PackageView) → Contains now p → JobOf p
+  pub record Holds (now : List PackageView) : Type 0 where
+    pub sound : IsSound runs table now
+    pub closed : IsClosed now
+    pub names : HasNames now
+    pub of : AreOfResults runs plan kept now
+    pub jobs : (p : PackageView) → Contains now p → JobOf p
 
   left_of : AreOfResults runs plan kept left
   left_of n p l c e =
@@ -69,7 +69,7 @@ module _ (runs : Runs) (table : List Recipe) (plan : PlanView) (tree : List JobV
       (kept_at-among plan left n l
         ∙ is_kept plan store.is_plan store.orderly left (fresh_is_greatest own members).closed (placed runs table plan tree own members store) n p l c e))
 
-  start : Holds left
+  pub start : Holds left
   start = record {
     sound = λ some within closed p c. store.sound some (λ q d. (fresh_is_greatest own members).within q (within q d)) closed p c;
     closed = (fresh_is_greatest own members).closed;
@@ -130,7 +130,7 @@ module _ (runs : Runs) (table : List Recipe) (plan : PlanView) (tree : List JobV
       sound = before.sound;
     }
 
-    step : Holds (p ∷ now)
+    pub step : Holds (p ∷ now)
     step =
         let both : IsSound runs table (p ∷ now) × IsClosed (p ∷ now) =
         one_more_sound runs table plan tree own kept now (p ∷ now) save.node p store_now (fresh_made runs table plan tree own members store) before.closed save.below save.built
@@ -141,6 +141,16 @@ module _ (runs : Runs) (table : List Recipe) (plan : PlanView) (tree : List JobV
   holds : (saved : List PackageView) → AreSaves runs plan kept left saved → Holds (saved ++ left)
   holds [] h = start
   holds (p ∷ saved) h = step (saved ++ left) p (holds saved h.1) h.0
+
+  -- the same of other lists with the same members
+  pub holds_same : (now other : List PackageView) → ((q : PackageView) → Contains other q → Contains now q) → ((q : PackageView) → Contains now q → Contains other q) → Holds now → Holds other
+  holds_same now other into back h = record {
+    sound = λ some within shut p c. h.sound some (λ q d. into q (within q d)) shut p c;
+    closed = λ p c. has_all_more now other back p (h.closed p (into p c));
+    names = λ p q c d e. h.names p q (into p c) (into q d) e;
+    of = λ n p l c e. h.of n p l (into p c) e;
+    jobs = λ p c. h.jobs p (into p c);
+  }
 
 pub saves_sound : (runs : Runs) (table : List Recipe) (plan : PlanView) (tree : List JobView) (own : PackageView → Bool) (members saved : List PackageView) → IsStore runs table plan tree own members
     → AreSaves runs plan (kept_by plan own members) (fresh own members) saved

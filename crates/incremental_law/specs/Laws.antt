@@ -1,9 +1,13 @@
 -- The laws.
 use Rattle.std.specs.Prelude.{◌≡◌, ℕ, Bool, false, ◌<◌, ◌⊎◌, List, [], ◌++◌, map, Contains, IsTrue}
+use Rattle.outside.specs.Changes.{replayed}
+use Rattle.outside.specs.Contents.{Contents}
+use Rattle.outside.specs.declared.change.Change.{Change}
 use Rattle.bulk_base.specs.declared.file.FileItem.{FileItem}
 use Rattle.bulk_model.specs.declared.plan.Kept.{Kept as KeptPackages}
 use Rattle.bulk_model.specs.declared.results.Status.TheVariants.{Built}
 use Rattle.bulk_model.specs.Bake.{Runs}
+use Rattle.bulk_model.specs.Journal.{IsJournal}
 use Rattle.bulk_model.specs.PlanFacts.{IsPlan}
 use Rattle.bulk_model.specs.PlanView.{PlanView, count}
 use Rattle.bulk_model.specs.Recipe.{recipe}
@@ -11,9 +15,11 @@ use Rattle.bulk_model.specs.Results.{bakes_by, status_at}
 use Rattle.bulk_model.specs.Sound.{Recipe, recipe_of, has_all, IsClosed, IsWithin, HasNames, IsSound}
 use Rattle.bulk_model.specs.Trees.{IsOrderly, IsTree, IsOfTree}
 use Rattle.bulk_model.specs.Views.{JobView, PackageView}
+use Rattle.pkg_record.specs.Stored.{packages_in}
 use Rattle.stale_check.specs.Fresh.{fresh}
 use Rattle.incremental_law.specs.Stores.{HasItsJob, IsStore, kept_by}
 use Rattle.incremental_law.specs.Clean.{AreMade, IsAsClean}
+use Rattle.incremental_law.specs.Journals.{DeletesRest, IsPastDeletions, built_records}
 use Rattle.incremental_law.specs.Saves.{AreOfResults, AreSaves}
 
 -- what is kept counts as built
@@ -74,3 +80,28 @@ EmptyIsStore =
     → recipe plan.base a ≡ recipe plan.base b → a ≡ b)
     → ((p : PackageView) → own p ≡ false → HasItsJob tree plan.base p)
     → IsStore runs (table_of plan.base tree) plan tree own []
+
+-- over a sound store the content after each change of a run is sound
+abbrev pub EachContentIsSound : Type 0
+EachContentIsSound =
+    (runs : Runs) (table : List Recipe) (plan : PlanView) (tree : List JobView)
+    (own : PackageView → Bool) (content : Contents) (deleted : List (List ℕ))
+    (changes : List Change)
+    → IsStore runs table plan tree own (packages_in content)
+    → DeletesRest own (packages_in content) deleted
+    → IsJournal plan (kept_by plan own (packages_in content))
+    (built_records runs plan (kept_by plan own (packages_in content))) deleted changes
+    → IsSound runs table (packages_in (replayed changes content))
+
+-- and from the deletions on it has with each package all that the package records
+abbrev pub EachContentIsClosed : Type 0
+EachContentIsClosed =
+    (runs : Runs) (table : List Recipe) (plan : PlanView) (tree : List JobView)
+    (own : PackageView → Bool) (content : Contents) (deleted : List (List ℕ))
+    (changes : List Change)
+    → IsStore runs table plan tree own (packages_in content)
+    → DeletesRest own (packages_in content) deleted
+    → IsJournal plan (kept_by plan own (packages_in content))
+    (built_records runs plan (kept_by plan own (packages_in content))) deleted changes
+    → IsPastDeletions deleted changes
+    → IsClosed (packages_in (replayed changes content))

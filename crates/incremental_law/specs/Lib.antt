@@ -1,4 +1,5 @@
 pub mod Stores
 pub mod Clean
 pub mod Saves
+pub mod Journals
 pub mod Laws

@@ -6,6 +6,8 @@ ghost use Rattle.incremental_law.specs.Laws.{
   OneMoreStaysSound,
   SavesStaySound,
   EmptyIsStore,
+  EachContentIsSound,
+  EachContentIsClosed,
 };
 
 /// Where each kept package is what its job gives over what is kept, a run that counts what it keeps
@@ -40,4 +42,16 @@ pub fn saves_stay_sound()
 /// of their recipes share a digest.
 pub fn empty_is_store()
     ensures { EmptyIsStore }
+{}
+
+/// Whatever change of a run over a sound store was the last, the store is sound: after any of its
+/// deletions, in any order, after any of its saves with dependencies first, and after the catalogue's
+/// put.
+pub fn each_content_is_sound()
+    ensures { EachContentIsSound }
+{}
+
+/// From the deletions on the store has with each package all that the package records.
+pub fn each_content_is_closed()
+    ensures { EachContentIsClosed }
 {}

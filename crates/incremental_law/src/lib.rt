@@ -5,6 +5,6 @@
 mod laws;
 
 pub use laws::{
-    empty_is_store, fresh_is_made, incremental_is_clean, kept_is_built, one_more_stays_sound,
-    saves_stay_sound,
+    each_content_is_closed, each_content_is_sound, empty_is_store, fresh_is_made,
+    incremental_is_clean, kept_is_built, one_more_stays_sound, saves_stay_sound,
 };
