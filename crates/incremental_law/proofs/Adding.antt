@@ -29,7 +29,7 @@ use Rattle.incremental_law.proofs.Baking.{SaysJob, says_job}
 use Rattle.incremental_law.proofs.Matching.{ArePlaced, PackageAt, package_at, kept_of, kept_is, is_kept, are_installs}
 
 -- what a status with a package comes from
-abbrev comes_from : Option PackageView → Bool → Bool → Outcome → Status
+abbrev pub comes_from : Option PackageView → Bool → Bool → Outcome → Status
 comes_from kept ignored good r = option_map_or Kept kept (cond ignored Ignored (cond good (status_of_outcome r) Skipped))
 
 pub record IsOf (ignored : Bool) (r : Outcome) (p : PackageView) : Type 0 where

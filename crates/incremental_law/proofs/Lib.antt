@@ -7,4 +7,5 @@ pub mod Adding
 pub mod Saving
 pub mod Recording
 pub mod Running
+pub mod Ending
 pub mod Beginning

@@ -4,7 +4,7 @@ use Rattle.std.specs.Prelude.{◌||◌, ◌≢◌, nat_eq, map, bytes_eq, is_som
 use Rattle.std.specs.Option.{option_map_or}
 use Rattle.std.specs.FinMap.{remove, insert}
 use Rattle.std.specs.List.{list_all, take-map}
-use Rattle.std.proofs.lemmas.Bool.{or_cases, cases_Bool, eqb-true, true≢false}
+use Rattle.std.proofs.lemmas.Bool.{or_cases, cases_Bool, eqb-true, eq-eqb, true≢false}
 use Rattle.std.proofs.lemmas.Slice.Eq.{bytes_eq-Decides}
 use Rattle.std.proofs.lemmas.List.{take-append-drop, take_all, length-take, length-append}
 use Rattle.std.proofs.lemmas.List.Elements.{Contains-append_left}
@@ -34,6 +34,7 @@ use Rattle.model_laws.proofs.Rounds.{fewer_stay_sound}
 use Rattle.stale_check.specs.Fresh.{fresh}
 use Rattle.stale_check.proofs.Passes.{fresh_is_greatest}
 use Rattle.incremental_law.specs.Stores.{IsStore, kept_by}
+use Rattle.incremental_law.specs.Runs.{put_nodes}
 use Rattle.incremental_law.specs.Saves.{IsSave}
 use Rattle.incremental_law.specs.Journals.{IsBuiltRecord, built_records, DeletesRest, IsPastDeletions}
 use Rattle.incremental_law.proofs.Adding.{Comes, res, built_says}
@@ -73,6 +74,20 @@ stays_after (file ∷ files) content are q c free =
 -- some first deletions are deletions
 front_of : {X : Type 0} (n : ℕ) (xs : List X) (x : X) → Contains (take n xs) x → Contains xs x
 front_of n xs x h = subst (λ ys. Contains ys x) (take-append-drop n xs) (Contains-append_left (take n xs) (drop n xs) x h)
+
+or_front : (a : Bool) → a ≡ true → (a || false) ≡ true
+or_front true h = refl
+or_front false h = h
+
+or_more : (a b c : Bool) → (a || c) ≡ true → (a || (b || c)) ≡ true
+or_more true b c h = refl
+or_more false true c h = refl
+or_more false false c h = h
+
+or_this : (a b c : Bool) → b ≡ true → (a || (b || c)) ≡ true
+or_this true b c h = refl
+or_this false true c h = refl
+or_this false false c h = h
 
 or_none : (a : Bool) → (a || false) ≡ true → a ≡ true
 or_none true h = refl
@@ -201,12 +216,37 @@ module _ (runs : Runs) (table : List Recipe) (plan : PlanView) (tree : List JobV
   putting [] done now are before = before.holds
   putting (change ∷ puts) done now are before = putting puts (are.0 ∷ done) (changed change now) are.2 (next done now before are.0 change are.1)
 
+  -- what is kept or put is there
+  putting_there : (puts : List Change) (done : List ℕ) (now : Contents) (are : ArePuts plan kept (built_records runs plan kept) done puts) → Stands done now → (d : ℕ) → d < count plan
+      → ((is_kept kept d || has done d) ≡ true) ⊎ Contains (put_nodes plan kept (built_records runs plan kept) done puts are) d → IsThere runs plan kept (packages_in (replayed puts now)) d
+  putting_there [] done now are before d l (inl h) = before.there d l h
+  putting_there [] done now are before d l (inr c) = absurd (contains_none d c)
+  putting_there (change ∷ puts) done now are before d l h =
+      putting_there puts (are.0 ∷ done) (changed change now) are.2 (next done now before are.0 change are.1) d l
+      (elim h [
+        | inl k ↦ inl (or_more (is_kept kept d) (nat_eq are.0 d) (has done d) k)
+        | inr c ↦ elim (contains_cases are.0 (put_nodes plan kept (built_records runs plan kept) (are.0 ∷ done) puts are.2) d c) [
+          | inl e ↦ inl (or_this (is_kept kept d) (nat_eq are.0 d) (has done d) (eq-eqb are.0 d e))
+          | inr m ↦ inr m
+        ]
+      ])
+
+  pub ended_there : (puts : List Change) (catalogue : List ℕ) (are : ArePuts plan kept (built_records runs plan kept) [] puts) (d : ℕ) → d < count plan
+      → (is_kept kept d ≡ true) ⊎ Contains (put_nodes plan kept (built_records runs plan kept) [] puts are) d
+      → IsThere runs plan kept (packages_in (replayed (removals deleted ++ puts ++ Put catalogue_file catalogue ∷ []) content)) d
+  ended_there puts catalogue are d l h =
+      let before = replayed puts begun in
+      let t = putting_there puts [] begun are (record { holds = deleted_holds; there = begun_there }) d l (elim h [ inl k ↦ inl (or_front (is_kept kept d) k) | inr c ↦ inr c ]) in
+      let all : replayed (removals deleted ++ puts ++ Put catalogue_file catalogue ∷ []) content ≡ insert before catalogue_file catalogue =
+          replayed-append (removals deleted ++ puts) (Put catalogue_file catalogue ∷ []) content ∙ ap (λ c. insert c catalogue_file catalogue) (replayed-append (removals deleted) puts content) in
+      record { one = t.one; comes = t.comes; is = subst (λ c. Contains (packages_in c) t.one) (sym all) ((other_put before catalogue_file catalogue refl t.one).1 t.is) }
+
   saved_holds : (puts : List Change) → ArePuts plan kept (built_records runs plan kept) [] puts → HoldsAt (replayed (removals deleted ++ puts) content)
   saved_holds puts are =
       subst HoldsAt (sym (replayed-append (removals deleted) puts content))
       (putting puts [] begun are (record { holds = deleted_holds; there = begun_there }))
 
-  ended_holds : (puts : List Change) (catalogue : List ℕ) → ArePuts plan kept (built_records runs plan kept) [] puts → HoldsAt (replayed (removals deleted ++ puts ++ Put catalogue_file catalogue ∷ []) content)
+  pub ended_holds : (puts : List Change) (catalogue : List ℕ) → ArePuts plan kept (built_records runs plan kept) [] puts → HoldsAt (replayed (removals deleted ++ puts ++ Put catalogue_file catalogue ∷ []) content)
   ended_holds puts catalogue are =
       let before = replayed (removals deleted ++ puts) content in
       let same = λ (q : PackageView). other_put before catalogue_file catalogue refl q in

@@ -12,7 +12,7 @@ use Rattle.bulk_model.specs.PlanFacts.{IsPlan}
 use Rattle.bulk_model.specs.PlanView.{PlanView, count}
 use Rattle.bulk_model.specs.Recipe.{recipe}
 use Rattle.bulk_model.specs.Results.{bakes_by, status_at}
-use Rattle.bulk_model.specs.Sound.{Recipe, recipe_of, has_all, IsClosed, IsWithin, HasNames, IsSound}
+use Rattle.bulk_model.specs.Sound.{Recipe, IsTable, recipe_of, has_all, IsClosed, IsWithin, HasNames, IsSound}
 use Rattle.bulk_model.specs.Trees.{IsOrderly, IsTree, IsOfTree}
 use Rattle.bulk_model.specs.Views.{JobView, PackageView}
 use Rattle.pkg_record.specs.Stored.{packages_in}
@@ -20,6 +20,7 @@ use Rattle.stale_check.specs.Fresh.{fresh}
 use Rattle.incremental_law.specs.Stores.{HasItsJob, IsStore, kept_by}
 use Rattle.incremental_law.specs.Clean.{AreMade, IsAsClean}
 use Rattle.incremental_law.specs.Journals.{DeletesRest, IsPastDeletions, built_records}
+use Rattle.incremental_law.specs.Runs.{OneRun, IsRunOver, AreRuns, IsDone, HasCleanPackages, content_after}
 use Rattle.incremental_law.specs.Saves.{AreOfResults, AreSaves}
 
 -- what is kept counts as built
@@ -105,3 +106,19 @@ EachContentIsClosed =
     (built_records runs plan (kept_by plan own (packages_in content))) deleted changes
     → IsPastDeletions deleted changes
     → IsClosed (packages_in (replayed changes content))
+
+-- any runs over trees that agree with one table, each ended or stopped anywhere, leave a sound store
+abbrev pub RunsStaySound : Type 0
+RunsStaySound =
+    (runs : Runs) (table : List Recipe) (some : List OneRun) (content : Contents)
+    → IsTable table → AreRuns runs table some content
+    → IsSound runs table (packages_in content)
+    → IsSound runs table (packages_in (content_after some content))
+
+-- and one that is done leaves at its nodes the packages of a clean run
+abbrev pub DoneRunsAreClean : Type 0
+DoneRunsAreClean =
+    (runs : Runs) (table : List Recipe) (run : OneRun) (content : Contents)
+    → IsTable table → IsRunOver runs table run content
+    → IsSound runs table (packages_in content) → IsDone runs run content
+    → HasCleanPackages runs run.plan (replayed run.changes content)

@@ -8,6 +8,8 @@ ghost use Rattle.incremental_law.specs.Laws.{
   EmptyIsStore,
   EachContentIsSound,
   EachContentIsClosed,
+  RunsStaySound,
+  DoneRunsAreClean,
 };
 
 /// Where each kept package is what its job gives over what is kept, a run that counts what it keeps
@@ -54,4 +56,16 @@ pub fn each_content_is_sound()
 /// From the deletions on the store has with each package all that the package records.
 pub fn each_content_is_closed()
     ensures { EachContentIsClosed }
+{}
+
+/// Any runs over trees that agree with one table of recipes, each ended or stopped anywhere, leave a
+/// sound store.
+pub fn runs_stay_sound()
+    ensures { RunsStaySound }
+{}
+
+/// A run over a sound store that is done leaves at its plan's nodes just the packages that a run over
+/// an empty store builds.
+pub fn done_runs_are_clean()
+    ensures { DoneRunsAreClean }
 {}

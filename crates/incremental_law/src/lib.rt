@@ -5,6 +5,7 @@
 mod laws;
 
 pub use laws::{
-    each_content_is_closed, each_content_is_sound, empty_is_store, fresh_is_made,
-    incremental_is_clean, kept_is_built, one_more_stays_sound, saves_stay_sound,
+    done_runs_are_clean, each_content_is_closed, each_content_is_sound, empty_is_store,
+    fresh_is_made, incremental_is_clean, kept_is_built, one_more_stays_sound, runs_stay_sound,
+    saves_stay_sound,
 };
