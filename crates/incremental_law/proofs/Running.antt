@@ -87,7 +87,7 @@ or_more false false c h = h
 or_this : (a b c : Bool) → b ≡ true → (a || (b || c)) ≡ true
 or_this true b c h = refl
 or_this false true c h = refl
-or_this false false c h = h
+or_this false false c h = absurd (cc h)
 
 or_none : (a : Bool) → (a || false) ≡ true → a ≡ true
 or_none true h = refl
