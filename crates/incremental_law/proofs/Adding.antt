@@ -76,7 +76,7 @@ built_says runs plan kept is_plan n p l built =
 pub package_says : (runs : Runs) (plan : PlanView) (kept : KeptPackages) → IsPlan plan → AreMade runs plan kept → (n : ℕ) (q : PackageView) → n < count plan → package_in (res runs plan kept n) ≡ Some q → Comes plan n q
 package_says runs plan kept is_plan made n q l e =
     elim (of_package (kept_at kept n) (is_ignored plan n) (list_all (λ m. is_good (res runs plan kept m)) (depends plan n)) (bake runs plan.base (job_at plan n) (packages_of runs plan kept n)) q
-      (ap package_in (sym (results_unfold (bakes_by runs plan) plan kept is_plan n l)) ∙ e)) [
+    (ap package_in (sym (results_unfold (bakes_by runs plan) plan kept is_plan n l)) ∙ e)) [
       | inl k ↦ record { free = made.free n q l k; says = says_job runs plan.base (job_at plan n) (filter_map (kept_at kept) (installs plan n)) q (made.made n q l k) }
       | inr f ↦ record { free = f.free; says = says_job runs plan.base (job_at plan n) (packages_of runs plan kept n) q f.gives }
     ]
@@ -114,9 +114,9 @@ module _ (runs : Runs) (table : List Recipe) (plan : PlanView) (tree : List JobV
   same : filter_map (kept_of plan more) (installs plan n) ≡ packages n
   same = filter_map_agree (kept_of plan more) (λ m. package_in (res runs plan kept m)) (installs plan n)
       (λ d c. let a : PackageAt plan store.is_plan store.orderly more more_closed placed n p l new_kept d =
-              package_at plan store.is_plan store.orderly more more_closed placed n p l new_kept (count plan) d (installs_are plan n d c) in
-          let at = kept_is plan store.is_plan store.orderly more more_closed placed d a.one a.kept in
-          a.kept ∙ sym (of d a.one a.below at.0 at.1))
+      package_at plan store.is_plan store.orderly more more_closed placed n p l new_kept (count plan) d (installs_are plan n d c) in
+      let at = kept_is plan store.is_plan store.orderly more more_closed placed d a.one a.kept in
+      a.kept ∙ sym (of d a.one a.below at.0 at.1))
 
   new_made : IsMade runs table more p
   new_made = record {

@@ -108,8 +108,7 @@ module _ (runs : Runs) (table : List Recipe) (run : OneRun) (content : Contents)
   leads n p l h =
       let e : as_built (res runs plan kept n) ≡ Built p = clean_at n l ∙ h in
       let its : package_in (res runs plan kept n) ≡ Some p = has_it (res runs plan kept n) p e in
-      let t : IsThere runs plan kept (packages_in last) n = is_there n p l e in
-      (
+      let t : IsThere runs plan kept (packages_in last) n = is_there n p l e in (
         subst (λ q. Contains (packages_in last) q) (same_Some t.one p (sym t.comes ∙ its)) t.is,
         (package_says runs plan kept over.is_plan (fresh_made runs table plan run.tree run.own (packages_in content) store) n p l its).says.node,
       )

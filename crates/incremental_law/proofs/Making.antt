@@ -50,7 +50,7 @@ module _ (runs : Runs) (table : List Recipe) (plan : PlanView) (tree : List JobV
       let mine : HasItsJob tree plan.base p = own_job p c in
       let made : IsMade runs table left p = store.sound left passed.within passed.closed p c in
       let same : made.recipe ≡ recipe_of plan.base mine.job =
-          store.is_table.one made.recipe (recipe_of plan.base mine.job) made.stands (store.agrees mine.job mine.stands) (made.digest ∙ sym mine.digest) in
+      store.is_table.one made.recipe (recipe_of plan.base mine.job) made.stands (store.agrees mine.job mine.stands) (made.digest ∙ sym mine.digest) in
       record { packages = made.packages; installed = made.installed; made = ap (λ (r : Recipe). bake runs r.base r.job made.packages) (sym same) ∙ made.made }
 
   pub says_own : (p : PackageView) (c : Contains left p) → SaysJob plan.base (own_job p c).job p

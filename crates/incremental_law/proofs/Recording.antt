@@ -53,7 +53,7 @@ module _ (runs : Runs) (table : List Recipe) (plan : PlanView) (tree : List JobV
       let below = target_below plan store.is_plan n edge.to l depends_on in
       let says = (package_says runs plan kept store.is_plan made edge.to q below e).says in
       let fits : is_meant (need_at plan edge) q ≡ true =
-          and_from _ _ ((bytes_eq-Decides (node_at plan edge.to) (node_of_package q)).1 (sym says.node)) ((bytes_eq-Decides (job_at plan edge.to).name q.name).1 (sym says.name)) in
+      and_from _ _ ((bytes_eq-Decides (node_at plan edge.to) (node_of_package q)).1 (sym says.node)) ((bytes_eq-Decides (job_at plan edge.to).name q.name).1 (sym says.name)) in
       let here = given_filter_map (λ m. package_in (res runs plan kept m)) (installs plan n) edge.to q (depends_are_installed plan store.is_plan n edge.to l depends_on) e in
       let found = contains_find (is_meant (need_at plan edge)) packages q here fits in
       let first = find_contains (is_meant (need_at plan edge)) packages found.0 found.1 in
@@ -71,15 +71,15 @@ module _ (runs : Runs) (table : List Recipe) (plan : PlanView) (tree : List JobV
       let new : IsOf _ _ p = built_is runs plan kept store.is_plan n p l built in
       let fields : IsPackageOf plan.base (job_at plan n) packages p = subst (IsOutcomeOf plan.base (job_at plan n) packages) new.gives (bake_is_build true runs plan.base (job_at plan n) packages).fields in
       let are : p.depends ≡ map (recorded packages) (map (need_at plan) (edges_from plan n)) =
-          ap (λ (q : PackageView). q.depends) fields.made ∙ ap (map (recorded packages)) (sym (store.orderly.needs n l new.free)) in
+      ap (λ (q : PackageView). q.depends) fields.made ∙ ap (map (recorded packages)) (sym (store.orderly.needs n l new.free)) in
       passes_all (λ d. list_any (is_recorded_as d) members) p.depends
       (λ r c.
-          let f : Source (recorded packages) (map (need_at plan) (edges_from plan n)) r = map_contains (recorded packages) (map (need_at plan) (edges_from plan n)) r (subst (λ ds. Contains ds r) are c) in
-          let g : Source (need_at plan) (edges_from plan n) f.one = map_contains (need_at plan) (edges_from plan n) f.one f.is in
-          let t : IsThere runs plan kept members g.one.to = there g.one.to (contains_map (λ (x : Edge). x.to) (edges_from plan n) g.one g.is) in
-          let m = meant g.one t.one g.is t.comes in
-          let is : recorded packages (need_at plan g.one) ≡ r = ap (recorded packages) g.gives ∙ f.gives in
-          let fits = and_parts (bytes_eq (node_at plan g.one.to) (node_of_package t.one)) (bytes_eq (job_at plan g.one.to).name t.one.name) m.1 in
-          member_any (is_recorded_as r) members t.one t.is
-          (subst (λ d. is_recorded_as d t.one ≡ true) is
-            (and_from _ _ fits.0 (and_from _ _ fits.1 ((bytes_eq-Decides _ _).1 (ap (λ (d : Digest). d.bytes) m.0))))))
+      let f : Source (recorded packages) (map (need_at plan) (edges_from plan n)) r = map_contains (recorded packages) (map (need_at plan) (edges_from plan n)) r (subst (λ ds. Contains ds r) are c) in
+      let g : Source (need_at plan) (edges_from plan n) f.one = map_contains (need_at plan) (edges_from plan n) f.one f.is in
+      let t : IsThere runs plan kept members g.one.to = there g.one.to (contains_map (λ (x : Edge). x.to) (edges_from plan n) g.one g.is) in
+      let m = meant g.one t.one g.is t.comes in
+      let is : recorded packages (need_at plan g.one) ≡ r = ap (recorded packages) g.gives ∙ f.gives in
+      let fits = and_parts (bytes_eq (node_at plan g.one.to) (node_of_package t.one)) (bytes_eq (job_at plan g.one.to).name t.one.name) m.1 in
+      member_any (is_recorded_as r) members t.one t.is
+      (subst (λ d. is_recorded_as d t.one ≡ true) is
+      (and_from _ _ fits.0 (and_from _ _ fits.1 ((bytes_eq-Decides _ _).1 (ap (λ (d : Digest). d.bytes) m.0))))))

@@ -56,9 +56,9 @@ module _ (at : ℕ → Option PackageView) (count : ℕ) (node : ℕ → List �
       → AreInOrder (filter_map at ns) → AreInOrder (cons_option o (filter_map at ns))
   given_order n ns None l e first below rest = rest
   given_order n ns (Some p) l e first below rest = order_from p (filter_map at ns)
-    (λ q c. let g : Given at ns q = filter_map_given at ns q c in
-        before_by_node p q (subst (λ a. IsBefore a (node_of_package q)) (sym (named n p l e)) (subst (λ b. IsBefore (node n) b) (sym (named g.one q (below g.one g.is) g.gives)) (rise n g.one (first g.one g.is) (below g.one g.is)))))
-    rest
+      (λ q c. let g : Given at ns q = filter_map_given at ns q c in
+      before_by_node p q (subst (λ a. IsBefore a (node_of_package q)) (sym (named n p l e)) (subst (λ b. IsBefore (node n) b) (sym (named g.one q (below g.one g.is) g.gives)) (rise n g.one (first g.one g.is) (below g.one g.is)))))
+      rest
 
   pub map_order : (ns : List ℕ) → AreRising ns → ((m : ℕ) → Contains ns m → m < count) → AreInOrder (filter_map at ns)
   unfolding AreRising

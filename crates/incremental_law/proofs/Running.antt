@@ -54,11 +54,13 @@ left_after [] content are q c = (c, λ h. contains_none (package_file q.name) h)
 left_after (file ∷ files) content are q c =
     let name = are file (contains_here file files) in
     let more = left_after files (remove content file) (λ f h. are f (contains_more file files f h)) q c in
-    let other = (after_a_removal content name.0 q).0 (subst (λ f. Contains (packages_in (remove content f)) q) name.1 more.0) in
-    (other.0, λ h. elim (contains_cases file files (package_file q.name) h) [
-      | inl e ↦ other.1 (package_file_apart q.name name.0 (sym e ∙ name.1))
-      | inr d ↦ more.1 d
-    ])
+    let other = (after_a_removal content name.0 q).0 (subst (λ f. Contains (packages_in (remove content f)) q) name.1 more.0) in (
+      other.0,
+      λ h. elim (contains_cases file files (package_file q.name) h) [
+        | inl e ↦ other.1 (package_file_apart q.name name.0 (sym e ∙ name.1))
+        | inr d ↦ more.1 d
+      ],
+    )
 
 pub stays_after : (files : List (List ℕ)) (content : Contents) → AreFiles files → (q : PackageView)
     → Contains (packages_in content) q → (Contains files (package_file q.name) → ⊥) → Contains (packages_in (replayed (removals files) content)) q
@@ -66,7 +68,7 @@ stays_after [] content are q c free = c
 stays_after (file ∷ files) content are q c free =
     let name = are file (contains_here file files) in
     let here : Contains (packages_in (remove content (package_file name.0))) q =
-        (after_a_removal content name.0 q).1 (c, λ e. free (subst (λ f. Contains (file ∷ files) f) (name.1 ∙ ap package_file (sym e)) (contains_here file files))) in
+    (after_a_removal content name.0 q).1 (c, λ e. free (subst (λ f. Contains (file ∷ files) f) (name.1 ∙ ap package_file (sym e)) (contains_here file files))) in
     stays_after files (remove content file) (λ f h. are f (contains_more file files f h)) q
     (subst (λ f. Contains (packages_in (remove content f)) q) (sym name.1) here)
     (λ h. free (contains_more file files (package_file q.name) h))
@@ -122,7 +124,7 @@ module _ (runs : Runs) (table : List Recipe) (plan : PlanView) (tree : List JobV
   deleting_sound steps =
       fewer_stay_sound runs table (packages_in content) (packages_in (replayed (take steps (removals deleted)) content)) store.sound
       (λ q c. (left_after (take steps deleted) content (λ f h. rest.files f (front_of steps deleted f h)) q
-        (subst (λ cs. Contains (packages_in (replayed cs content)) q) (take-map Remove steps deleted) c)).0)
+      (subst (λ cs. Contains (packages_in (replayed cs content)) q) (take-map Remove steps deleted) c)).0)
 
   -- when all are deleted
   abbrev begun : Contents
@@ -196,7 +198,7 @@ module _ (runs : Runs) (table : List Recipe) (plan : PlanView) (tree : List JobV
     back q c =
         subst (λ m. Contains (packages_in m) q) (sym after)
         ((after_a_put now new.built new.recorded q).1
-          (elim (contains_cases new.built (packages_in now) q c) [ inl e ↦ inl (sym e) | inr d ↦ back_case q c (decided q.name new.built.name) d ]))
+        (elim (contains_cases new.built (packages_in now) q c) [ inl e ↦ inl (sym e) | inr d ↦ back_case q c (decided q.name new.built.name) d ]))
 
     there_case : (d : ℕ) → d < count plan → (is_kept kept d || (nat_eq n d || has done d)) ≡ true → (n ≡ d) ⊎ ((is_kept kept d || has done d) ≡ true) → IsThere runs plan kept (packages_in (changed change now)) d
     there_case d l k (inl e) = subst (λ m. IsThere runs plan kept (packages_in (changed change now)) m) e (record { one = new.built; comes = ap package_in new.comes; is = back new.built (contains_here new.built (packages_in now)) })
@@ -238,7 +240,7 @@ module _ (runs : Runs) (table : List Recipe) (plan : PlanView) (tree : List JobV
       let before = replayed puts begun in
       let t = putting_there puts [] begun are (record { holds = deleted_holds; there = begun_there }) d l (elim h [ inl k ↦ inl (or_front (is_kept kept d) k) | inr c ↦ inr c ]) in
       let all : replayed (removals deleted ++ puts ++ Put catalogue_file catalogue ∷ []) content ≡ insert before catalogue_file catalogue =
-          replayed-append (removals deleted ++ puts) (Put catalogue_file catalogue ∷ []) content ∙ ap (λ c. insert c catalogue_file catalogue) (replayed-append (removals deleted) puts content) in
+      replayed-append (removals deleted ++ puts) (Put catalogue_file catalogue ∷ []) content ∙ ap (λ c. insert c catalogue_file catalogue) (replayed-append (removals deleted) puts content) in
       record { one = t.one; comes = t.comes; is = subst (λ c. Contains (packages_in c) t.one) (sym all) ((other_put before catalogue_file catalogue refl t.one).1 t.is) }
 
   saved_holds : (puts : List Change) → ArePuts plan kept (built_records runs plan kept) [] puts → HoldsAt (replayed (removals deleted ++ puts) content)

@@ -67,7 +67,7 @@ module _ (runs : Runs) (table : List Recipe) (plan : PlanView) (tree : List JobV
       ap package_in (results_unfold (bakes_by runs plan) plan kept store.is_plan n l
       ∙ ap (λ o. option_map_or Kept o (if is_ignored plan n then Ignored else status_of_build (bakes_by runs plan) plan (res runs plan kept) n))
       (kept_at-among plan left n l
-        ∙ is_kept plan store.is_plan store.orderly left (fresh_is_greatest own members).closed (placed runs table plan tree own members store) n p l c e))
+      ∙ is_kept plan store.is_plan store.orderly left (fresh_is_greatest own members).closed (placed runs table plan tree own members store) n p l c e))
 
   pub start : Holds left
   start = record {
