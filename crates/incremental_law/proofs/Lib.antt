@@ -1,0 +1,11 @@
+pub mod Alike
+pub mod Baking
+pub mod Rising
+pub mod Matching
+pub mod Making
+pub mod Adding
+pub mod Saving
+pub mod Recording
+pub mod Running
+pub mod Ending
+pub mod Beginning
