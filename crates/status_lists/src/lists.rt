@@ -1,16 +1,22 @@
-// The texts of a run and of a dry run.
+// What a run and a dry run print.
 ghost use Rattle.std.specs.Prelude.{◌≡◌, IfOk};
 ghost use Rattle.bulk_model.specs.DryLists.{dry_lists};
 ghost use Rattle.bulk_model.specs.Fit.{FitsResults};
 ghost use Rattle.bulk_model.specs.Lists.{lists};
 
+use crate::fate::Part;
+use crate::fates::{dry_fates, fates};
+use crate::text::{push_named, push_notices, push_part, push_stale, push_total};
+use bucket_queue::dry_order;
 use bulk_base::NoMemory;
 use bulk_model::{Kept, Notices, Plan, Results, Stales};
-use std::alloc::{AllocError, Global};
+use std::alloc::Global;
 
 /// What a run prints: a line for each word that moved, and the lists of what was deleted from the
 /// store and of what came of each node of the plan, each under its heading with its count
 /// (docs/FORMATS.md, "Printed texts"). NoMemory for want of memory alone.
+///
+/// Each node and each edge of the plan is looked at a fixed number of times.
 pub fn lists(
     alloc: Global,
     plan: &Plan,
@@ -22,13 +28,25 @@ pub fn lists(
     ensures { IfOk result (λ text. text.items
         ≡ lists plan.now results.now.statuses deleted.now notices.now) }
 {
-    let _ = (alloc, plan, results, deleted, notices);
-    Err(AllocError)
+    let told = fates(alloc, plan, results)?;
+    let fates = told.as_slice();
+    let mut text = String::new(alloc);
+    push_notices(alloc, &mut text, notices.as_slice())?;
+    push_stale(alloc, &mut text, "deleted", deleted.as_slice())?;
+    push_part(alloc, &mut text, "kept", Part::Kept, plan, fates)?;
+    push_part(alloc, &mut text, "built", Part::Built, plan, fates)?;
+    push_part(alloc, &mut text, "failed", Part::Failed, plan, fates)?;
+    push_part(alloc, &mut text, "ignored", Part::Ignored, plan, fates)?;
+    push_part(alloc, &mut text, "skipped", Part::Skipped, plan, fates)?;
+    push_total(alloc, &mut text, plan)?;
+    Ok(text.into_bytes())
 }
 
 /// What a dry run prints, in which every build is taken to succeed: the same lists under the
 /// headings of what would be (docs/FORMATS.md, "Printed texts"). What would be built stands in the
 /// order of one builder. NoMemory for want of memory alone.
+///
+/// Each node costs the logarithm of their number, and each edge that of the number of ready nodes.
 pub fn dry_lists(
     alloc: Global,
     plan: &Plan,
@@ -39,6 +57,16 @@ pub fn dry_lists(
     ensures { IfOk result (λ text. text.items
         ≡ dry_lists plan.now kept.now deleted.now notices.now) }
 {
-    let _ = (alloc, plan, kept, deleted, notices);
-    Err(AllocError)
+    let told = dry_fates(alloc, plan, kept)?;
+    let fates = told.as_slice();
+    let order = dry_order(alloc, plan, kept)?;
+    let mut text = String::new(alloc);
+    push_notices(alloc, &mut text, notices.as_slice())?;
+    push_stale(alloc, &mut text, "would delete", deleted.as_slice())?;
+    push_part(alloc, &mut text, "would keep", Part::Kept, plan, fates)?;
+    push_named(alloc, &mut text, "would build", plan, order.as_slice())?;
+    push_part(alloc, &mut text, "ignored", Part::Ignored, plan, fates)?;
+    push_part(alloc, &mut text, "would skip", Part::Skipped, plan, fates)?;
+    push_total(alloc, &mut text, plan)?;
+    Ok(text.into_bytes())
 }

@@ -1,0 +1,13 @@
+use Rattle.status_lists.proofs.fates.fates.Goals as goal
+
+pub loop-n-init : goal.loop-n-init
+loop-n-init c = ?
+
+pub told-requires : goal.told-requires
+told-requires c = ?
+
+pub loop-n-preserved : goal.loop-n-preserved
+loop-n-preserved c = ?
+
+pub returns : goal.returns
+returns c = ?
