@@ -11,10 +11,12 @@ use Rattle.bulk_model.specs.declared.results.Status.TheVariants.{Kept as KeptSta
 use Rattle.bulk_model.specs.Cause.{cause}
 use Rattle.bulk_model.specs.Fit.{FitsResults, status_in, is_skipped}
 use Rattle.bulk_model.specs.PlanFacts.{IsPlan}
-use Rattle.bulk_model.specs.PlanView.{PlanView, count, depends}
+use Rattle.bulk_model.specs.PlanView.{PlanView, count, depends, edges_from}
 use Rattle.bulk_model.specs.declared.plan.Edge.{Edge}
 use Rattle.bulk_base.proofs.Members.{all_passes, below_range}
-use Rattle.dep_graph.specs.Graphs.{has, nodes_of}
+use Rattle.bulk_model.specs.declared.plan.Kept.{Kept as KeptPackages}
+use Rattle.bulk_model.specs.DryLists.{dry_statuses}
+use Rattle.dep_graph.specs.Graphs.{has, nodes_of, targets}
 use Rattle.dep_graph.specs.Order.{IsInOrder, IsDependencyOrder, IsLooplessPart, is_free}
 use Rattle.dep_graph.proofs.OrderLaws.{loopless_plan}
 use Rattle.dep_graph.proofs.Waiting.{or_none}
@@ -22,8 +24,8 @@ use Rattle.dep_graph.proofs.Members.{has-append, all_has, all_from_has, has_at}
 use Rattle.model_laws.proofs.Blaming.{causes_are_to_blame}
 use Rattle.status_lists.specs.declared.fate.Fate.{Fate}
 use Rattle.status_lists.specs.declared.fate.Fate.TheVariants.{Kept, Built, Failed, Ignored, Skipped}
-use Rattle.status_lists.specs.Fates.{AreFates, NamesNode, fate_by, fate_at, fate_in, fates_of}
-use Rattle.status_lists.proofs.Causes.{AreTold}
+use Rattle.status_lists.specs.Fates.{AreFates, NamesNode, fate_by, fate_at, fate_in, fates_of, told_by, dry_fate}
+use Rattle.status_lists.proofs.Causes.{AreTold, told_is, dry_is}
 
 -- so many nodes of an order are told
 pub record SoFar (plan : PlanView) (statuses : List Status) (order : List ℕ) (done : ℕ)
@@ -111,8 +113,40 @@ so_far_all plan is statuses fits order ordered done l fates so =
     (so.size ∙ sym (length-map-range_with_len (fate_at plan statuses) 0 (count plan)))
     (λ i b. told i (omega arith) ∙ sym (get_or-map-range_with_len (fate_at plan statuses) 0 (count plan) i i Kept (omega arith) (omega arith))) in
     record {
+      size = so.size;
       told = all;
       causes = All-from_get_or (NamesNode (count plan)) fates Kept
           (λ i b. subst (NamesNode (count plan)) (sym (told i (omega arith)))
           (names_case plan statuses i (λ skipped. (causes_are_to_blame plan statuses is fits i (omega arith) skipped).0) (status_in statuses i) refl));
     }
+
+-- the turn of a node by its status
+pub told_turn : (plan : PlanView) (is : IsPlan plan) (statuses : List Status)
+    → FitsResults plan statuses → (order : List ℕ) → IsInOrder plan.edges order
+    → (done : ℕ) → done < length order → (fates read after : List Fate) (status : Status) (fate : Fate) (edges : List Edge)
+    → SoFar plan statuses order done fates → read ≡ fates
+    → status ≡ status_in statuses (get_or order done 0) → edges ≡ edges_from plan (get_or order done 0)
+    → fate ≡ told_by status (get_or order done 0) read (targets edges)
+    → after ≡ set fates (get_or order done 0) fate
+    → SoFar plan statuses order (done + 1) after
+told_turn plan is statuses fits order ordered done l fates read after status fate edges so r s e f a =
+    so_far_more plan statuses order is ordered done l fates after fate so
+    (f ∙ ap (λ x. told_by x (get_or order done 0) read (targets edges)) s
+    ∙ ap (λ x. told_by (status_in statuses (get_or order done 0)) (get_or order done 0) x (targets edges)) r
+    ∙ ap (λ x. told_by (status_in statuses (get_or order done 0)) (get_or order done 0) fates (targets x)) e
+    ∙ told_is plan is statuses fits fates (get_or order done 0) (next_below plan statuses order is ordered done l) (next_told plan statuses order is ordered done l fates so))
+    a
+
+-- and where each build succeeds
+pub dry_turn : (plan : PlanView) (is : IsPlan plan) (kept : KeptPackages) (order : List ℕ)
+    → IsInOrder plan.edges order → (done : ℕ) → done < length order
+    → (fates read after : List Fate) (fate : Fate)
+    → SoFar plan (dry_statuses plan kept) order done fates → read ≡ fates
+    → fate ≡ dry_fate plan kept (get_or order done 0) read
+    → after ≡ set fates (get_or order done 0) fate
+    → SoFar plan (dry_statuses plan kept) order (done + 1) after
+dry_turn plan is kept order ordered done l fates read after fate so r f a =
+    so_far_more plan (dry_statuses plan kept) order is ordered done l fates after fate so
+    (f ∙ ap (dry_fate plan kept (get_or order done 0)) r
+    ∙ dry_is plan is kept fates (get_or order done 0) (next_below plan (dry_statuses plan kept) order is ordered done l) (next_told plan (dry_statuses plan kept) order is ordered done l fates so))
+    a

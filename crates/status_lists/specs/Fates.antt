@@ -74,7 +74,8 @@ NamesNode count (Failed phase code) = Unit {0}
 NamesNode count Ignored = Unit {0}
 NamesNode count (Skipped cause) = cause < count
 
--- what is told of each node, and that each cause is a node
+-- what is told of each node of a plan, where each cause is a node
 pub record AreFates (plan : PlanView) (statuses : List Status) (fates : List Fate) : Type 0 where
+  pub size : length fates ≡ length plan.jobs
   pub told : fates ≡ fates_of plan statuses
   pub causes : All (NamesNode (length plan.jobs)) fates

@@ -35,6 +35,13 @@ fn dependencies_first(alloc: Global, plan: &Plan) -> Result<Numbers, NoMemory>
     Ok(graph.loopless_part(alloc)?)
 }
 
+/// A place for what is told of each of so many nodes.
+fn places(alloc: Global, count: usize) -> Result<Vec<Fate>, NoMemory>
+    ensures { IfOk result (λ fates. length fates.items ≡ count) }
+{
+    Ok(vec![in alloc; Fate::Kept; count]?)
+}
+
 /// The least target of some edges that has no package.
 fn least_setback(edges: &[Edge], fates: &[Fate]) -> Option<u32>
     requires { All (λ edge. edge.to < length fates.now) edges.now }
@@ -111,7 +118,7 @@ pub(crate) fn fates(
 {
     let order = dependencies_first(alloc, plan)?;
     let statuses = results.statuses.as_slice();
-    let mut fates = vec![in alloc; Fate::Kept; statuses.len()]?;
+    let mut fates = places(alloc, statuses.len())?;
     for n in order.as_slice() {
         let at = *n as usize;
         let edges = plan.edges.as_slice()[at].as_slice();
@@ -129,7 +136,7 @@ pub(crate) fn dry_fates(alloc: Global, plan: &Plan, kept: &Kept) -> Result<Vec<F
         AreFates plan.now (dry_statuses plan.now kept.now) fates.items) }
 {
     let order = dependencies_first(alloc, plan)?;
-    let mut fates = vec![in alloc; Fate::Kept; plan.jobs.len()]?;
+    let mut fates = places(alloc, plan.jobs.len())?;
     for n in order.as_slice() {
         let at = *n as usize;
         fates[at] = dry_fate(plan, kept, at, fates.as_slice());

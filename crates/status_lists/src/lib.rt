@@ -4,7 +4,7 @@
 mod entries;
 mod fate;
 mod fates;
-mod lists;
+mod printing;
 mod text;
 
-pub use lists::{dry_lists, lists};
+pub use printing::{dry_lists, lists};
