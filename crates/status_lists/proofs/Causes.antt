@@ -112,7 +112,7 @@ dry_case : (plan : PlanView) (statuses : List Status) (n : ℕ)
     → (good ≡ true → o ≡ None)
     → (is_skipped (status_with k ignored good (MadePackage made)) ≡ true → o ≡ Some (cause plan statuses n))
     → (if is_some k then Kept else (if ignored then Ignored else option_map_or Skipped o Built))
-      ≡ fate_by plan statuses n (status_with k ignored good (MadePackage made))
+    ≡ fate_by plan statuses n (status_with k ignored good (MadePackage made))
 dry_case plan statuses n (Some p) ignored good made o none some = refl
 dry_case plan statuses n None true good made o none some = refl
 dry_case plan statuses n None false true made o none some = ap (λ o. option_map_or Skipped o Built) (none refl)

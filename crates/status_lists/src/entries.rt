@@ -141,11 +141,7 @@ pub(crate) fn entries(
 }
 
 /// Nodes with their packages' names, in the order given.
-pub(crate) fn named(
-    alloc: Global,
-    plan: &Plan,
-    numbers: &[u32],
-) -> Result<Vec<String>, NoMemory>
+pub(crate) fn named(alloc: Global, plan: &Plan, numbers: &[u32]) -> Result<Vec<String>, NoMemory>
     requires { All (λ n. n < length plan.now.jobs) numbers.now }
     ensures { IfOk result (λ entries.
         map string_bytes entries.items ≡ map (model.node_words plan.now) numbers.now) }

@@ -108,11 +108,7 @@ fn dry_fate(plan: &Plan, kept: &Kept, n: usize, fates: &[Fate]) -> Fate
 /// What is told of each node of a plan with these results. NoMemory for want of memory alone.
 ///
 /// Each node and each edge is looked at a fixed number of times.
-pub(crate) fn fates(
-    alloc: Global,
-    plan: &Plan,
-    results: &Results,
-) -> Result<Vec<Fate>, NoMemory>
+pub(crate) fn fates(alloc: Global, plan: &Plan, results: &Results) -> Result<Vec<Fate>, NoMemory>
     requires { FitsResults plan.now results.now.statuses }
     ensures { IfOk result (λ fates. AreFates plan.now results.now.statuses fates.items) }
 {

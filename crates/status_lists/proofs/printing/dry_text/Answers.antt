@@ -6,7 +6,7 @@ use Rattle.bulk_model.specs.DryLists.{dry_statuses}
 use Rattle.bulk_model.specs.Lists.{listed, node_words, notice_line, stale_entry}
 use Rattle.status_lists.proofs.Assembling.{dry_lists_are}
 use Rattle.status_lists.proofs.Ordering.{order_nodes}
-use Rattle.status_lists.proofs.printing.dry_lists.Goals as goal
+use Rattle.status_lists.proofs.printing.dry_text.Goals as goal
 
 pub push_named-requires : goal.push_named-requires
 push_named-requires c =
@@ -15,8 +15,7 @@ push_named-requires c =
 
 pub returns : goal.returns
 returns c =
-    c.into_bytes.ensures.value
-    ∙ dry_lists_are c.args.plan.now c.args.kept.now c.in_ok-told.told.items c.as_slice-fates.result.now c.in_ok-told.ensures c.as_slice-fates.ensures.value
+    dry_lists_are c.args.plan.now c.args.kept.now c.in_ok-told.told.items c.as_slice-fates.result.now c.in_ok-told.ensures c.as_slice-fates.ensures.value
     c.args.deleted.now c.args.notices.now c.as_slice-3.result.now _ _ _ _ _ _ _
     (c.as_slice-3.ensures ∙ c.in_ok-order.ensures)
     (c.in_ok-push_notices.ensures
