@@ -1,0 +1,4 @@
+pub mod Drawing
+pub mod Lines
+pub mod Names
+pub mod Apart
