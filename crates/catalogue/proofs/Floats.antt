@@ -6,11 +6,13 @@ use Rattle.std.specs.Cmp.Lexicographic.{slice_cmp}
 use Rattle.std.specs.declared.cmp.Ordering.{Ordering}
 use Rattle.std.specs.declared.cmp.Ordering.TheVariants.{Less, Equal, Greater}
 use Rattle.bulk_base.specs.declared.file.Switch.{Switch}
+use Rattle.bulk_model.specs.Digests.{digest_of, hex}
+use Rattle.bulk_model.specs.Spelling.{spelling}
 use Rattle.bulk_model.specs.Views.{PackageView}
 use Rattle.serde_json.specs.Data.{Data, Items, Members, boolean, number, unsigned, string, array, object, no_members, member, put}
 use Rattle.serde_json.specs.View.{items_of}
 use Rattle.serde_json.specs.Written.{has_float, items_have_float, members_have_float}
-use Rattle.catalogue.specs.Catalogue.{strings, with_options, entry_by, entry}
+use Rattle.catalogue.specs.Catalogue.{strings, with_options, depend_names, entry_by, entry}
 
 or_of : (a b : Bool) → a ≡ false → b ≡ false → (a || b) ≡ false
 or_of a b f g = ap (λ x. x || b) f ∙ g
@@ -54,15 +56,25 @@ by_none : (p : PackageView) (depends : Items) (options : Members) (sha256 : List
     → has_float (entry_by p depends options sha256 size) ≡ false
 unfolding entry_by
 by_none p depends options sha256 size f g =
-    put_none (codes "size") (number (unsigned size)) _ refl
-    (put_none (codes "sha256") (string sha256) _ refl
-    (put_none (codes "origin") (string p.origin) _ refl
-    (put_none (codes "options") (object options) _ g
-    (put_none (codes "name") (string p.name) _ refl
-    (put_none (codes "flavor") (string (unwrap_or p.flavor [])) _ refl
-    (put_none (codes "files") (number (unsigned (length p.files))) _ refl
+    let a : Members = put (codes "depends") (array depends) no_members in
+    let b : Members = put (codes "files") (number (unsigned (length p.files))) a in
+    let c : Members = put (codes "flavor") (string (unwrap_or p.flavor [])) b in
+    let d : Members = put (codes "name") (string p.name) c in
+    let e : Members = put (codes "options") (object options) d in
+    let h : Members = put (codes "origin") (string p.origin) e in
+    let i : Members = put (codes "sha256") (string sha256) h in
+    put_none (codes "size") (number (unsigned size)) i refl
+    (put_none (codes "sha256") (string sha256) h refl
+    (put_none (codes "origin") (string p.origin) e refl
+    (put_none (codes "options") (object options) d g
+    (put_none (codes "name") (string p.name) c refl
+    (put_none (codes "flavor") (string (unwrap_or p.flavor [])) b refl
+    (put_none (codes "files") (number (unsigned (length p.files))) a refl
     (put_none (codes "depends") (array depends) no_members f refl)))))))
 
 pub entry_none : (p : PackageView) → has_float (entry p) ≡ false
 unfolding entry
-entry_none p = by_none p _ _ _ _ (strings_none _) (options_none p.options no_members refl)
+entry_none p =
+    by_none p (strings (depend_names p)) (with_options p.options no_members)
+    (hex (digest_of (spelling p))) (length (spelling p))
+    (strings_none (depend_names p)) (options_none p.options no_members refl)

@@ -136,7 +136,8 @@ fn entry(alloc: Global, built: &Package) -> Result<Value, NoMemory>
     let names = depend_names(alloc, built)?;
     let depends = strings(alloc, names.as_slice())?;
     let options = switches(alloc, built.options.as_slice())?;
-    entry_by(alloc, built, depends, options, &sha256, record.len())
+    let size = record.len();
+    Ok(entry_by(alloc, built, depends, options, &sha256, size)?)
 }
 
 /// The text of what is told of a package.
@@ -144,14 +145,21 @@ fn entry_text(alloc: Global, built: &Package) -> Result<String, NoMemory>
     ensures { IfOk result (λ text. string_bytes text ≡ compact_text (specs.entry built.now)) }
 {
     let value = entry(alloc, built)?;
-    value.to_string(alloc)
+    Ok(value.to_string(alloc)?)
+}
+
+/// The text of a package's line.
+fn line_text(alloc: Global, built: &Package) -> Result<String, NoMemory>
+    ensures { IfOk result (λ text. string_bytes text ≡ specs.entry_line built.now) }
+{
+    let mut text = entry_text(alloc, built)?;
+    text.push('\n')?;
+    Ok(text)
 }
 
 /// A package's line.
 pub(crate) fn entry_line(alloc: Global, built: &Package) -> Result<Vec<u8>, NoMemory>
     ensures { IfOk result (λ bytes. bytes.items ≡ specs.entry_line built.now) }
 {
-    let mut text = entry_text(alloc, built)?;
-    text.push('\n')?;
-    Ok(text.into_bytes())
+    Ok(line_text(alloc, built)?.into_bytes())
 }

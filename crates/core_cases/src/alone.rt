@@ -24,7 +24,7 @@ pub(crate) fn fault_of(error: Outer) -> CaseError {
 }
 
 /// The plan of written nodes.
-fn plan_from(
+pub(crate) fn plan_from(
     alloc: Global,
     jobs: Jobs,
     edges: EdgeLists,
@@ -67,7 +67,7 @@ fn name_of(alloc: Global, job: &Job) -> Result<Text, NoMemory> {
     job.name.copy(alloc)
 }
 
-fn fails_of(alloc: Global, plan: &Plan, marks: &[Marks]) -> Result<Texts, NoMemory> {
+pub(crate) fn fails_of(alloc: Global, plan: &Plan, marks: &[Marks]) -> Result<Texts, NoMemory> {
     let mut names = Sequence::new(alloc);
     for n in 0..plan.jobs.len() {
         if n < marks.len() && marks[n].fails {

@@ -1,4 +1,4 @@
-//! Cases of the queue of a plan's nodes and of one builder: a line of standard input each, with fields between bars, and an
+//! Cases of the queue of a plan's nodes, of one builder and of what is printed: a line of standard input each, with fields between bars, and an
 //! answer a line.
 #![tactic(auto)]
 
@@ -9,6 +9,7 @@ mod large;
 mod many;
 mod plans;
 mod ports;
+mod printed;
 mod queues;
 mod scan;
 mod testing;
@@ -26,6 +27,13 @@ fn answer(alloc: Global, case: &[&str], out: &mut Vec<u8>) -> Result<(), CaseErr
         ["mixed ends", count, seed] => queues::answer_mix(alloc, count, seed, out),
         ["alone", plan] => answer_plan(alloc, plan, Shown::Alone, out),
         ["finish", plan] => answer_plan(alloc, plan, Shown::Finish, out),
+        ["lists", plan, deleted, moved] => {
+            printed::answer_printed(alloc, [plan, deleted, moved], false, out)
+        }
+        ["dry lists", plan, deleted, moved] => {
+            printed::answer_printed(alloc, [plan, deleted, moved], true, out)
+        }
+        ["skipped", shape, count] => printed::answer_skipped(alloc, shape, count, out),
         ["many", shape, count] => large::answer_many(alloc, shape, count, out),
         ["made", shape, count] => large::answer_made(alloc, shape, count, out),
         _ => Err(CaseError::Unfit),
