@@ -1,4 +1,4 @@
--- What the lists tell of a node (docs/FORMATS.md, "Printed texts").
+-- What the lists tell of a node (docs/FORMATS.md, "What is printed").
 use Rattle.std.specs.Prelude.{◌≡◌, ◌<◌, ℕ, Bool, true, false, not, List, length, map, slice_index_or, Option, unwrap_or, if◌then◌else◌}
 use Rattle.std.specs.List.{All}
 use Rattle.std.specs.Option.{option_map, option_map_or}

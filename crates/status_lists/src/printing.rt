@@ -41,7 +41,7 @@ fn run_text(
 
 /// What a run prints: a line for each word that moved, and the lists of what was deleted from the
 /// store and of what came of each node of the plan, each under its heading with its count
-/// (docs/FORMATS.md, "Printed texts"). NoMemory for want of memory alone.
+/// (docs/FORMATS.md, "What is printed"). NoMemory for want of memory alone.
 ///
 /// Each node and each edge of the plan is looked at a fixed number of times.
 pub fn lists(
@@ -84,7 +84,7 @@ fn dry_text(
 }
 
 /// What a dry run prints, in which every build is taken to succeed: the same lists under the
-/// headings of what would be (docs/FORMATS.md, "Printed texts"). What would be built stands in the
+/// headings of what would be (docs/FORMATS.md, "What is printed"). What would be built stands in the
 /// order of one builder. NoMemory for want of memory alone.
 ///
 /// Each node costs the logarithm of their number, and each edge that of the number of ready nodes.
