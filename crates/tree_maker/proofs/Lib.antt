@@ -1,3 +1,4 @@
+pub mod Ranges
 pub mod Drawing
 pub mod Lines
 pub mod Names

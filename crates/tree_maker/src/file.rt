@@ -1,6 +1,5 @@
 // The files of a tree, each at its path.
-ghost use Rattle.std.specs.Prelude.{◌≡◌, ◌≤◌, ◌<◌, ◌∷◌, [], ◌++◌, length, map, filter, IfOk, OnOk};
-ghost use Rattle.std.specs.List.{range_with_len};
+ghost use Rattle.std.specs.Prelude.{◌≡◌, ◌≤◌, ◌<◌, ◌∷◌, [], ◌++◌, length, IfOk, OnOk, if◌then◌else◌};
 ghost use Rattle.std.specs.String.{string_bytes};
 ghost use Rattle.tree_maker.specs.Made as made;
 ghost use Rattle.tree_maker.specs.Words.{word};
@@ -65,15 +64,24 @@ fn subdir_text(alloc: Global, kind: Word, numbers: &[u32]) -> Result<String, NoM
     Ok(text)
 }
 
+/// Puts a number at the end, if it is wanted.
+fn push_if(numbers: &mut Vec<u32>, i: u32, wanted: bool) -> Result<(), NoMemory>
+    ensures { OnOk result (numbers.new.items
+        ≡ numbers.old.items ++ (if wanted then i ∷ [] else [])) }
+{
+    if wanted {
+        numbers.push(i)?;
+    }
+    Ok(())
+}
+
 /// The ports of a category, ascending.
 fn ports_in(alloc: Global, ports: u32, c: u32) -> Result<Vec<u32>, NoMemory>
     ensures { IfOk result (λ numbers. numbers.items ≡ made.ports_in ports c) }
 {
     let mut numbers = Vec::new(alloc);
     for i in 0..ports {
-        if category_of(i) == c {
-            numbers.push(i)?;
-        }
+        push_if(&mut numbers, i, category_of(i) == c)?;
     }
     Ok(numbers)
 }
