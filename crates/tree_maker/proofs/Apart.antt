@@ -3,7 +3,7 @@ use Rattle.std.proofs.Common.{◌≡◌, ℕ, zero, suc, ◌+◌, ◌<◌, ◌�
 use Rattle.std.specs.Prelude.{◌&&◌, ◌||◌, ◌==◌, map, drop, min, codes, find, Contains}
 use Rattle.std.specs.List.{list_all, list_any, range_with_len}
 use Rattle.std.specs.declared.cmp.Ordering.TheVariants.{Less, Equal, Greater}
-use Rattle.std.specs.FinMap.{empty, insert, keys, entries, entries-insert, put}
+use Rattle.std.specs.FinMap.{empty, insert, keys, entries, entries-insert, len-entries, len-empty, put}
 use Rattle.std.proofs.lemmas.Bool.{and_from, and_parts, eqb-true}
 use Rattle.std.specs.Cmp.Lexicographic.{nat_list_cmp_total}
 use Rattle.std.specs.FinMap.Entries.{by_order}
@@ -177,9 +177,18 @@ files_made number ports l =
     list_all-append (λ f. is_made_path f.path) (map (category_file ports) (categories ports)) (port_files ports 0 number)
     ∙ and_from _ _ (categories_made ports) (ports_made ports 0 number (omega arith))
 
+none_of_length : {X : Type 0} (xs : List X) → length xs ≡ 0 → xs ≡ []
+none_of_length [] e = refl
+none_of_length (x ∷ xs) e = absurd (omega arith)
+
+empty_made : list_all is_made_path (keys {X = List ℕ} {R = order} empty) ≡ true
+empty_made =
+    subst (λ es. list_all is_made_path (map (λ e. e.0) es) ≡ true)
+    (sym (none_of_length (entries {X = List ℕ} {R = order} empty) (sym (len-entries empty) ∙ len-empty order (List ℕ)))) refl
+
 pub none_is_folder : (number ports : ℕ) → ports ≤ 8192
     → first_folder (keys (content_of (files number ports))) ≡ None
 none_is_folder number ports l =
     let all : list_all is_made_path (keys (content_of (files number ports))) ≡ true =
-    keys_with is_made_path empty (files number ports) (files_made number ports l) refl in
+    keys_with is_made_path empty (files number ports) (files_made number ports l) empty_made in
     none_found (keys (content_of (files number ports))) (keys (content_of (files number ports))) all all

@@ -3,3 +3,4 @@ pub mod Drawing
 pub mod Lines
 pub mod Names
 pub mod Apart
+pub mod Files

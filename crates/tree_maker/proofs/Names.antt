@@ -57,7 +57,7 @@ category_plain c l =
 pub category_path_is : (c : ℕ) → c < 8 → is_path (category c) ≡ true
 category_path_is c l =
     subst (λ name. is_path name ≡ true) (sym (category_is c l))
-    (one_part (c_name c) (slashless 99 _ refl (slashless (48 + c) _ (no_slash c (omega arith)) nothing)) refl)
+    (one_part (c_name c) (slashless 99 ((48 + c) ∷ []) refl (slashless (48 + c) [] (no_slash c (omega arith)) nothing)) refl)
 
 pub folder_plain : (i : ℕ) → i < 10000 → is_plain_text (folder i) ≡ true
 folder_plain i l =
@@ -71,9 +71,15 @@ pub folder_path_is : (i : ℕ) → i < 10000 → is_path (folder i) ≡ true
 folder_path_is i l =
     subst (λ name. is_path name ≡ true) (sym (folder_is i l))
     (one_part (p_name (i / 1000) (i / 100 % 10) (i / 10 % 10) (i % 10))
-    (slashless 112 _ refl
-    (slashless (48 + i / 1000) _ (no_slash (i / 1000) (omega arith))
-    (slashless (48 + i / 100 % 10) _ (no_slash (i / 100 % 10) (omega arith))
-    (slashless (48 + i / 10 % 10) _ (no_slash (i / 10 % 10) (omega arith))
-    (slashless (48 + i % 10) _ (no_slash (i % 10) (omega arith)) nothing)))))
+    (slashless 112 ((48 + i / 1000) ∷ (48 + i / 100 % 10) ∷ (48 + i / 10 % 10) ∷ (48 + i % 10) ∷ []) refl
+    (slashless (48 + i / 1000) ((48 + i / 100 % 10) ∷ (48 + i / 10 % 10) ∷ (48 + i % 10) ∷ []) (no_slash (i / 1000) (omega arith))
+    (slashless (48 + i / 100 % 10) ((48 + i / 10 % 10) ∷ (48 + i % 10) ∷ []) (no_slash (i / 100 % 10) (omega arith))
+    (slashless (48 + i / 10 % 10) ((48 + i % 10) ∷ []) (no_slash (i / 10 % 10) (omega arith))
+    (slashless (48 + i % 10) [] (no_slash (i % 10) (omega arith)) nothing)))))
     refl)
+
+pub category_short : (c : ℕ) → c < 8 → length (category c) ≤ 2
+category_short c l = subst (λ name. length name ≤ 2) (sym (category_is c l)) (omega arith)
+
+pub folder_short : (i : ℕ) → i < 10000 → length (folder i) ≤ 5
+folder_short i l = subst (λ name. length name ≤ 5) (sym (folder_is i l)) (omega arith)

@@ -5,10 +5,20 @@ ghost use Rattle.tree_maker.specs.Made as made;
 ghost use Rattle.tree_maker.specs.Words.{word};
 
 use crate::draws::Draws;
-use crate::port::{draw_port, port_text};
+use crate::port::{draw_port, port_bytes};
 use crate::word::{Word, category, category_of, folder, push_spaced};
 use bulk_base::{FileItem, NoMemory, Path, Sequence};
 use std::alloc::Global;
+
+/// The name of a category as a path of one part.
+fn category_part(alloc: Global, c: u32) -> Result<Path, NoMemory>
+    requires { c < 8 }
+    ensures same { IfOk result (λ path. path ≡ made.category c) }
+    ensures short { length (made.category c) ≤ 2 }
+{
+    let name = category(alloc, c)?;
+    Path::literal(alloc, name.as_str().as_bytes())
+}
 
 /// The folder of a category.
 fn category_path(alloc: Global, c: u32) -> Result<Path, NoMemory>
@@ -16,9 +26,17 @@ fn category_path(alloc: Global, c: u32) -> Result<Path, NoMemory>
     ensures path { IfOk result (λ path. path ≡ made.category_path c) }
     ensures short { IfOk result (λ path. length path ≤ 8) }
 {
-    let name = category(alloc, c)?;
-    let name = Path::literal(alloc, name.as_str().as_bytes())?;
-    Path::literal(alloc, b"ports")?.join_short(alloc, &name)
+    Path::literal(alloc, b"ports")?.join_short(alloc, &category_part(alloc, c)?)
+}
+
+/// The name of a port's folder as a path of one part.
+fn folder_part(alloc: Global, i: u32) -> Result<Path, NoMemory>
+    requires { i < 10000 }
+    ensures same { IfOk result (λ path. path ≡ made.folder i) }
+    ensures short { length (made.folder i) ≤ 5 }
+{
+    let name = folder(alloc, i)?;
+    Path::literal(alloc, name.as_str().as_bytes())
 }
 
 /// The folder of the port `i`.
@@ -27,9 +45,7 @@ fn port_folder(alloc: Global, i: u32) -> Result<Path, NoMemory>
     ensures path { IfOk result (λ path. path ≡ made.port_folder i) }
     ensures short { IfOk result (λ path. length path ≤ 14) }
 {
-    let name = folder(alloc, i)?;
-    let name = Path::literal(alloc, name.as_str().as_bytes())?;
-    category_path(alloc, category_of(i))?.join_short(alloc, &name)
+    category_path(alloc, category_of(i))?.join_short(alloc, &folder_part(alloc, i)?)
 }
 
 /// The path of the file of the port `i`.
@@ -47,10 +63,10 @@ pub(crate) fn port_file(alloc: Global, draws: &mut Draws, i: u32) -> Result<File
     ensures state { OnOk result (draws.new ≡ made.rest i draws.old) }
 {
     let port = draw_port(alloc, draws, i)?;
-    let text = port_text(alloc, i, &port)?;
+    let bytes = port_bytes(alloc, i, &port)?;
     Ok(FileItem {
         path: port_path(alloc, i)?,
-        bytes: Sequence::from_vec(text.into_bytes()),
+        bytes: Sequence::from_vec(bytes),
     })
 }
 

@@ -133,8 +133,8 @@ fn stage_line(alloc: Global, folder: &str) -> Result<String, NoMemory>
     Ok(format!(in alloc; "DO_STAGE=list stage/share/{folder} local\n")?)
 }
 
-/// The file of the port `i`.
-pub(crate) fn port_text(alloc: Global, i: u32, port: &Port) -> Result<String, NoMemory>
+/// The text of the port `i`.
+fn port_text(alloc: Global, i: u32, port: &Port) -> Result<String, NoMemory>
     ensures { IfOk result (λ text. string_bytes text
         ≡ made.port_text i port.now.version port.now.targets.items port.now.fate) }
 {
@@ -145,4 +145,12 @@ pub(crate) fn port_text(alloc: Global, i: u32, port: &Port) -> Result<String, No
     text.push_str(fate_line(port.fate))?;
     text.push_str(stage_line(alloc, folder.as_str())?.as_str())?;
     Ok(text)
+}
+
+/// The file of the port `i`.
+pub(crate) fn port_bytes(alloc: Global, i: u32, port: &Port) -> Result<Vec<u8>, NoMemory>
+    ensures { IfOk result (λ bytes. bytes.items
+        ≡ made.port_text i port.now.version port.now.targets.items port.now.fate) }
+{
+    Ok(port_text(alloc, i, port)?.into_bytes())
 }

@@ -1,5 +1,5 @@
-use Rattle.std.proofs.Common.{◌∙◌, append_assoc}
+use Rattle.tree_maker.proofs.Files.{name_lines_are}
 use Rattle.tree_maker.proofs.port.name_lines.Goals as goal
 
 pub returns : goal.returns
-returns c = c.in_ok-format.ensures.ok ∙ simp append_assoc
+returns c = name_lines_are _ c.args.folder.now c.args.version c.in_ok-format.ensures.ok
