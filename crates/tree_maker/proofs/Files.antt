@@ -7,9 +7,10 @@ use Rattle.tree_maker.specs.Draws.{draw}
 use Rattle.tree_maker.specs.Made.{line, name_lines, port_text, port_path, port_file, port_files, targets, fate, rest}
 
 name_lines_group : (folder version : List ℕ)
-    → codes "PORTNAME=" ++ (folder ++ (codes "\nPORTVERSION=1." ++ (version ++ 10 ∷ [])))
+    → codes "PORTNAME=" ++ (folder ++ (10 ∷ codes "PORTVERSION=1." ++ (version ++ 10 ∷ [])))
       ≡ line (codes "PORTNAME=" ++ folder) ++ line (codes "PORTVERSION=1." ++ version)
-name_lines_group folder version = simp append_assoc
+name_lines_group folder version =
+    ap (λ xs. codes "PORTNAME=" ++ xs) (sym (append_assoc folder (10 ∷ []) (codes "PORTVERSION=1." ++ (version ++ 10 ∷ []))))
 
 pub name_lines_are : (text folder : List ℕ) (version : ℕ)
     → text ≡ codes "PORTNAME=" ++ (folder ++ (codes "\nPORTVERSION=1." ++ (decimal version ++ 10 ∷ [])))

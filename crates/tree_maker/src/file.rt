@@ -14,10 +14,10 @@ use std::alloc::Global;
 fn category_part(alloc: Global, c: u32) -> Result<Path, NoMemory>
     requires { c < 8 }
     ensures same { IfOk result (λ path. path ≡ made.category c) }
-    ensures short { length (made.category c) ≤ 2 }
+    ensures short { IfOk result (λ path. length path ≤ 2) }
 {
     let name = category(alloc, c)?;
-    Path::literal(alloc, name.as_str().as_bytes())
+    Ok(Path::literal(alloc, name.as_str().as_bytes())?)
 }
 
 /// The folder of a category.
@@ -33,10 +33,10 @@ fn category_path(alloc: Global, c: u32) -> Result<Path, NoMemory>
 fn folder_part(alloc: Global, i: u32) -> Result<Path, NoMemory>
     requires { i < 10000 }
     ensures same { IfOk result (λ path. path ≡ made.folder i) }
-    ensures short { length (made.folder i) ≤ 5 }
+    ensures short { IfOk result (λ path. length path ≤ 5) }
 {
     let name = folder(alloc, i)?;
-    Path::literal(alloc, name.as_str().as_bytes())
+    Ok(Path::literal(alloc, name.as_str().as_bytes())?)
 }
 
 /// The folder of the port `i`.

@@ -1,4 +1,4 @@
-use Rattle.std.proofs.Common.{◌≡◌, true, sym, subst, ◌∙◌}
+use Rattle.std.proofs.Common.{◌≡◌, ◌≤◌, length, true, sym, subst, ◌∙◌}
 use Rattle.bulk_base.specs.Path.{is_path}
 use Rattle.bulk_base.specs.Text.{is_plain_text}
 use Rattle.tree_maker.proofs.Names.{category_plain, category_path_is, category_short}
@@ -15,4 +15,7 @@ literal-requires-clause-path c =
     (category_path_is c.args.c c.requires)
 
 pub returns-clause-short : goal.returns-clause-short
-returns-clause-short c = category_short c.args.c c.requires
+returns-clause-short c =
+    subst (λ path. length path ≤ 2)
+    (sym (c.in_ok-literal.ensures ∙ c.as_bytes.ensures.value ∙ c.as_str.ensures.value ∙ c.in_ok-name.ensures))
+    (category_short c.args.c c.requires)

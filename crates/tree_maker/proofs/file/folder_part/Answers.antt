@@ -1,4 +1,4 @@
-use Rattle.std.proofs.Common.{◌≡◌, true, sym, subst, ◌∙◌}
+use Rattle.std.proofs.Common.{◌≡◌, ◌≤◌, length, true, sym, subst, ◌∙◌}
 use Rattle.bulk_base.specs.Path.{is_path}
 use Rattle.bulk_base.specs.Text.{is_plain_text}
 use Rattle.tree_maker.proofs.Names.{folder_plain, folder_path_is, folder_short}
@@ -15,4 +15,7 @@ literal-requires-clause-path c =
     (folder_path_is c.args.i c.requires)
 
 pub returns-clause-short : goal.returns-clause-short
-returns-clause-short c = folder_short c.args.i c.requires
+returns-clause-short c =
+    subst (λ path. length path ≤ 5)
+    (sym (c.in_ok-literal.ensures ∙ c.as_bytes.ensures.value ∙ c.as_str.ensures.value ∙ c.in_ok-name.ensures))
+    (folder_short c.args.i c.requires)
