@@ -52,7 +52,12 @@ fn switches(alloc: Global, options: &[Switch]) -> Result<Map<String, Value>, NoM
 {
     let mut members = Map::new(alloc);
     for option in options {
-        put(&mut members, alloc, option.name.as_str(), Value::Bool(option.on))?;
+        put(
+            &mut members,
+            alloc,
+            option.name.as_str(),
+            Value::Bool(option.on),
+        )?;
     }
     Ok(members)
 }

@@ -23,11 +23,7 @@ fn lines_of(alloc: Global, packages: &[Shared<Package>]) -> Result<TextMap<Bytes
 }
 
 /// Lines one after another, by these names.
-fn listed(
-    alloc: Global,
-    lines: &TextMap<Bytes>,
-    names: &[Text],
-) -> Result<Vec<u8>, NoMemory>
+fn listed(alloc: Global, lines: &TextMap<Bytes>, names: &[Text]) -> Result<Vec<u8>, NoMemory>
     ensures { IfOk result (λ text. text.items
         ≡ flat_map (λ name. unwrap_or (finite.get lines.now name) []) names.now) }
 {

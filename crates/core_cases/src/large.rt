@@ -22,11 +22,7 @@ pub(crate) fn none_kept(alloc: Global, plan: &Plan) -> Result<Kept, NoMemory> {
 }
 
 /// So many nodes of which nothing is said, but perhaps that the first is ignored.
-fn marks_of(
-    alloc: Global,
-    count: usize,
-    is_first_ignored: bool,
-) -> Result<Vec<Marks>, NoMemory> {
+fn marks_of(alloc: Global, count: usize, is_first_ignored: bool) -> Result<Vec<Marks>, NoMemory> {
     let mut marks = vec![in alloc; Marks::none(); count]?;
     if is_first_ignored && !marks.is_empty() {
         marks[0] = Marks {

@@ -8,7 +8,7 @@ use Rattle.tree_maker.specs.Made.{line, name_lines, port_text, port_path, port_f
 
 name_lines_group : (folder version : List ℕ)
     → codes "PORTNAME=" ++ (folder ++ (10 ∷ codes "PORTVERSION=1." ++ (version ++ 10 ∷ [])))
-      ≡ line (codes "PORTNAME=" ++ folder) ++ line (codes "PORTVERSION=1." ++ version)
+    ≡ line (codes "PORTNAME=" ++ folder) ++ line (codes "PORTVERSION=1." ++ version)
 name_lines_group folder version =
     ap (λ xs. codes "PORTNAME=" ++ xs) (sym (append_assoc folder (10 ∷ []) (codes "PORTVERSION=1." ++ (version ++ 10 ∷ []))))
 

@@ -23,12 +23,7 @@ fn categories(alloc: Global, ports: u32) -> Result<Vec<u32>, NoMemory>
 }
 
 /// Puts the files that list the ports of categories behind others.
-fn push_categories(
-    alloc: Global,
-    files: &mut Files,
-    ports: u32,
-    count: u32,
-) -> Result<(), NoMemory>
+fn push_categories(alloc: Global, files: &mut Files, ports: u32, count: u32) -> Result<(), NoMemory>
     requires { count ≤ 8 }
     ensures { OnOk result (files.new
         ≡ files.old ++ map (made.category_file ports) (range_with_len 0 count)) }
@@ -40,12 +35,7 @@ fn push_categories(
 }
 
 /// Puts the files of ports behind others.
-fn push_ports(
-    alloc: Global,
-    files: &mut Files,
-    number: u64,
-    ports: u32,
-) -> Result<(), NoMemory>
+fn push_ports(alloc: Global, files: &mut Files, number: u64, ports: u32) -> Result<(), NoMemory>
     requires { ports ≤ 8192 }
     ensures { OnOk result (files.new ≡ files.old ++ made.port_files ports 0 number) }
 {

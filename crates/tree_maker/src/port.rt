@@ -22,12 +22,7 @@ pub(crate) struct Port {
 }
 
 /// So many dependencies of the port `i`.
-fn draw_targets(
-    alloc: Global,
-    draws: &mut Draws,
-    i: u32,
-    count: u64,
-) -> Result<Vec<u32>, NoMemory>
+fn draw_targets(alloc: Global, draws: &mut Draws, i: u32, count: u64) -> Result<Vec<u32>, NoMemory>
     requires { 0 < count → 0 < i }
     ensures targets { IfOk result (λ targets. targets.items
         ≡ map (λ k. draw (k + 1) draws.old % i) (range_with_len 0 count)) }
