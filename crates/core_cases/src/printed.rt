@@ -168,7 +168,7 @@ pub(crate) fn answer_printed(
     push_written(alloc, written_of(alloc, fields[0])?, &beside, is_dry, out)
 }
 
-/// How long the text of a dry run is, and its last line but one.
+/// How long the text of a dry run is, and its end.
 fn push_size(alloc: Global, text: &[u8], out: &mut Vec<u8>) -> Result<(), AllocError> {
     push_number(alloc, out, text.len() as u64)?;
     push_str(out, " bytes, at last ")?;
@@ -186,7 +186,8 @@ fn push_many(alloc: Global, plan: &Plan, out: &mut Vec<u8>) -> Result<(), AllocE
     push_size(alloc, text.as_slice(), out)
 }
 
-/// What a dry run prints of a chain, a fan or groups of so many nodes of which the first is ignored.
+/// What a dry run prints of a chain, a fan or groups of so many nodes, of which the first is
+/// ignored.
 pub(crate) fn answer_skipped(
     alloc: Global,
     shape: &str,

@@ -93,7 +93,8 @@ fn push_tree(alloc: Global, tree: &mut MemTree, out: &mut Vec<u8>) -> Result<(),
     Ok(push_summary(alloc, paths.len(), size, all.as_slice(), out)?)
 }
 
-/// The tree of a number with so many ports: how many files, their bytes, and the digest of all of them.
+/// The tree of a number with so many ports: how many files, their bytes, and the digest of all of
+/// them.
 pub(crate) fn answer_tree(
     alloc: Global,
     number: &str,

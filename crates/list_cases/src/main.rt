@@ -1,5 +1,5 @@
-//! Cases of catalogues and of the trees of numbers: a line of standard input each, with fields between bars, and an answer a
-//! line.
+//! Cases of catalogues and of the trees of numbers: a line of standard input each, with fields
+//! between bars, and an answer a line.
 #![tactic(auto)]
 
 mod catalogues;
@@ -18,7 +18,8 @@ fn answer(alloc: Global, case: &[&str], out: &mut Vec<u8>) -> Result<(), CaseErr
     }
 }
 
-/// The line of an answer. An empty line and one that begins with `#` are headings, and answer themselves.
+/// The line of an answer. An empty line and one that begins with `#` are headings, and answer
+/// themselves.
 fn answer_line(alloc: Global, line: &str) -> Result<String, AllocError> {
     if line.is_empty() || line.starts_with('#') {
         return line.to_string(alloc);

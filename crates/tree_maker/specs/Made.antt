@@ -141,7 +141,8 @@ categories_file numbers = record {
 
 abbrev pub files : ℕ → ℕ → List FileItem
 files number ports =
-    categories_file (categories ports) ∷ (map (category_file ports) (categories ports) ++ port_files ports 0 number)
+    categories_file (categories ports)
+    ∷ (map (category_file ports) (categories ports) ++ port_files ports 0 number)
 
 abbrev pub tree : ℕ → ℕ → Contents
 tree number ports = content_of (files number ports)
