@@ -1,5 +1,5 @@
 -- What is told of a package, member by member.
-use Rattle.std.proofs.Common.{◌≡◌, ℕ, List, length, map, refl, ap, ◌∙◌}
+use Rattle.std.proofs.Common.{◌≡◌, ℕ, List, length, map, ap, ◌∙◌}
 use Rattle.bulk_model.specs.Digests.{digest_of, hex}
 use Rattle.bulk_model.specs.Spelling.{spelling}
 use Rattle.bulk_model.specs.Views.{PackageView}

@@ -1,6 +1,6 @@
 -- What is told of a package has no float.
-use Rattle.std.proofs.Common.{◌≡◌, ℕ, Bool, true, false, List, [], ◌∷◌, refl, ap, sym, ◌∙◌}
-use Rattle.std.specs.Prelude.{◌||◌, map, codes, unwrap_or, length}
+use Rattle.std.proofs.Common.{◌≡◌, ℕ, Bool, true, false, List, [], ◌∷◌, refl, ap, ◌∙◌}
+use Rattle.std.specs.Prelude.{◌||◌, codes, unwrap_or, length}
 use Rattle.std.specs.Ordering.{match_ordering, nat_cmp}
 use Rattle.std.specs.Cmp.Lexicographic.{slice_cmp}
 use Rattle.std.specs.declared.cmp.Ordering.{Ordering}
@@ -10,7 +10,6 @@ use Rattle.bulk_model.specs.Digests.{digest_of, hex}
 use Rattle.bulk_model.specs.Spelling.{spelling}
 use Rattle.bulk_model.specs.Views.{PackageView}
 use Rattle.serde_json.specs.Data.{Data, Items, Members, boolean, number, unsigned, string, array, object, no_members, member, put}
-use Rattle.serde_json.specs.View.{items_of}
 use Rattle.serde_json.specs.Written.{has_float, items_have_float, members_have_float}
 use Rattle.catalogue.specs.Catalogue.{strings, with_options, depend_names, entry_by, entry}
 

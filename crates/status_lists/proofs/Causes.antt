@@ -1,22 +1,21 @@
 -- The cause of a node by what is told of its dependencies.
 use Rattle.std.proofs.Common.{◌≡◌, ℕ, ◌<◌, Bool, true, false, not, List, [], ◌∷◌, get_or, refl, ap, sym, ◌∙◌, cond, Option, Some, None}
-use Rattle.std.specs.Prelude.{◌&&◌, filter, is_some, unwrap_or, Contains, if◌then◌else◌}
+use Rattle.std.specs.Prelude.{◌&&◌, filter, is_some, unwrap_or, if◌then◌else◌}
 use Rattle.std.specs.List.{All, list_all}
 use Rattle.std.specs.Option.{option_map, option_map_or}
 use Rattle.std.proofs.lemmas.Bool.{true≢false}
 use Rattle.std.proofs.lemmas.List.Elements.{All-get_or, All-from_get_or}
-use Rattle.bulk_base.specs.Least.{least, least_passing}
+use Rattle.bulk_base.specs.Least.{least}
 use Rattle.bulk_model.specs.declared.plan.Kept.{Kept as KeptPackages}
-use Rattle.bulk_model.specs.declared.outcome.Outcome.{Outcome}
 use Rattle.bulk_model.specs.declared.outcome.Outcome.TheVariants.{Built as MadePackage}
 use Rattle.bulk_model.specs.declared.results.Status.{Status}
 use Rattle.bulk_model.specs.declared.results.Status.TheVariants.{Kept as KeptStatus, Built as BuiltStatus, Failed as FailedStatus, Ignored as IgnoredStatus, Skipped as SkippedStatus}
-use Rattle.bulk_model.specs.Cause.{cause, least_setback}
+use Rattle.bulk_model.specs.Cause.{cause}
 use Rattle.bulk_model.specs.DryLists.{bakes_well, dry_statuses}
 use Rattle.bulk_model.specs.Fit.{FitsResults, status_in, is_skipped}
 use Rattle.bulk_model.specs.PlanFacts.{IsPlan}
 use Rattle.bulk_model.specs.PlanView.{PlanView, count, depends, is_ignored}
-use Rattle.bulk_model.specs.Results.{is_good, is_kept, kept_at}
+use Rattle.bulk_model.specs.Results.{is_good, kept_at}
 use Rattle.bulk_model.specs.Views.{PackageView}
 use Rattle.dep_graph.proofs.Members.{filter_agree}
 use Rattle.model_laws.specs.Results.{IsWayOn}
@@ -25,7 +24,7 @@ use Rattle.model_laws.proofs.Deciding.{status_with}
 use Rattle.model_laws.proofs.Fitted.{stands, good_same, results_fit}
 use Rattle.model_laws.proofs.Graph.{all_contained}
 use Rattle.status_lists.specs.declared.fate.Fate.{Fate}
-use Rattle.status_lists.specs.declared.fate.Fate.TheVariants.{Kept, Built, Failed, Ignored, Skipped}
+use Rattle.status_lists.specs.declared.fate.Fate.TheVariants.{Kept, Built, Ignored, Skipped}
 use Rattle.status_lists.specs.Fates.{fate_by, fate_at, fate_in, has_package, blamed_by, cause_by, told_by, dry_fate}
 
 package_same : (plan : PlanView) (statuses : List Status) (n : ℕ) (s : Status)

@@ -1,7 +1,6 @@
 -- What is told of nodes, one after another in an order of dependencies.
-use Rattle.std.proofs.Common.{◌≡◌, ℕ, ◌+◌, ◌<◌, ◌≤◌, Bool, true, false, List, [], ◌∷◌, ◌++◌, length, get_or, set, take, refl, ap, sym, subst, ◌∙◌, arith, nat_eq, inl, inr, ◌⊎◌}
-use Rattle.std.specs.Prelude.{◌==◌, ◌||◌, map}
-use Rattle.std.specs.List.{All}
+use Rattle.std.proofs.Common.{◌≡◌, ℕ, ◌+◌, ◌<◌, ◌≤◌, Bool, true, false, List, [], ◌∷◌, length, get_or, set, take, refl, ap, sym, subst, ◌∙◌, arith}
+use Rattle.std.specs.Prelude.{◌==◌, ◌||◌}
 use Rattle.std.proofs.lemmas.Bool.{eqb-true, eqb-false}
 use Rattle.std.proofs.lemmas.List.{take_more, take_all, ext_get_or, get_or-set_same, get_or-set_other, length-set}
 use Rattle.std.proofs.lemmas.List.Elements.{All-get_or, All-from_get_or}
@@ -20,10 +19,10 @@ use Rattle.dep_graph.specs.Graphs.{has, nodes_of, targets}
 use Rattle.dep_graph.specs.Order.{IsInOrder, IsDependencyOrder, IsLooplessPart, is_free}
 use Rattle.dep_graph.proofs.OrderLaws.{loopless_plan}
 use Rattle.dep_graph.proofs.Waiting.{or_none}
-use Rattle.dep_graph.proofs.Members.{has-append, all_has, all_from_has, has_at}
+use Rattle.dep_graph.proofs.Members.{has-append, all_has, all_from_has}
 use Rattle.model_laws.proofs.Blaming.{causes_are_to_blame}
 use Rattle.status_lists.specs.declared.fate.Fate.{Fate}
-use Rattle.status_lists.specs.declared.fate.Fate.TheVariants.{Kept, Built, Failed, Ignored, Skipped}
+use Rattle.status_lists.specs.declared.fate.Fate.TheVariants.{Kept}
 use Rattle.status_lists.specs.Fates.{AreFates, NamesNode, fate_by, fate_at, fate_in, fates_of, told_by, dry_fate}
 use Rattle.status_lists.proofs.Causes.{AreTold, told_is, dry_is}
 

@@ -1,5 +1,5 @@
 -- The entries of nodes by what is told of them (docs/FORMATS.md, "What is printed").
-use Rattle.std.specs.Prelude.{ℕ, Bool, true, false, List, codes, Option, Some, None, map, if◌then◌else◌}
+use Rattle.std.specs.Prelude.{ℕ, Bool, true, false, List, codes, Option, Some, None, if◌then◌else◌}
 use Rattle.std.specs.List.{filter_map}
 use Rattle.std.specs.Fmt.{decimal}
 use Rattle.bulk_model.specs.Lists.{two_words, node_words, phase_word, reason_at}

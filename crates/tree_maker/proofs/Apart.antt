@@ -1,7 +1,7 @@
 -- No file of a made tree is a folder of another.
-use Rattle.std.proofs.Common.{◌≡◌, ℕ, zero, suc, ◌+◌, ◌<◌, ◌≤◌, ◌%◌, Bool, true, false, List, [], ◌∷◌, ◌++◌, length, get_or, refl, ap, sym, subst, ◌∙◌, arith, inl, inr, ◌⊎◌, cond, Option, Some, None}
-use Rattle.std.specs.Prelude.{◌&&◌, ◌||◌, ◌==◌, map, drop, min, codes, find, Contains}
-use Rattle.std.specs.List.{list_all, list_any, range_with_len}
+use Rattle.std.proofs.Common.{◌≡◌, ℕ, zero, suc, ◌+◌, ◌<◌, ◌≤◌, Bool, true, false, List, [], ◌∷◌, ◌++◌, length, get_or, refl, ap, sym, subst, ◌∙◌, arith, inl, inr, ◌⊎◌, cond, Option, Some, None}
+use Rattle.std.specs.Prelude.{◌&&◌, ◌||◌, ◌==◌, map, drop, min, codes, find}
+use Rattle.std.specs.List.{list_all, list_any}
 use Rattle.std.specs.declared.cmp.Ordering.TheVariants.{Less, Equal, Greater}
 use Rattle.std.specs.FinMap.{empty, insert, keys, entries, entries-insert, len-entries, len-empty, put}
 use Rattle.std.proofs.lemmas.Bool.{and_from, and_parts, eqb-true}
@@ -12,12 +12,12 @@ use Rattle.std.proofs.lemmas.List.Folds.{list_all-append, list_all-map}
 use Rattle.bulk_base.specs.Path.{is_below, joined}
 use Rattle.bulk_base.specs.declared.file.FileItem.{FileItem}
 use Rattle.bulk_base.proofs.Paths.{below_is_joined}
-use Rattle.bulk_base.proofs.Members.{passes_all, all_passes, range_below}
+use Rattle.bulk_base.proofs.Members.{passes_all, range_below}
 use Rattle.bulk_base.proofs.MapView.{order}
 use Rattle.outside.specs.Contents.{Contents}
 use Rattle.outside.specs.Given.{with_files, content_of, is_folder_of, first_folder}
-use Rattle.tree_maker.specs.Made.{category, category_of, category_path, folder, port_path, port_file, port_files, category_file, categories, categories_file, files, rest}
-use Rattle.tree_maker.proofs.Names.{c_name, p_name, category_is, folder_is}
+use Rattle.tree_maker.specs.Made.{category_of, category_path, folder, port_path, port_files, category_file, categories, files, rest}
+use Rattle.tree_maker.proofs.Names.{c_name, category_is, folder_is}
 
 -- a path of this length with these bytes at the seventh and the tenth place
 abbrev has_shape : ℕ → ℕ → ℕ → List ℕ → Bool

@@ -4,7 +4,7 @@ use Rattle.std.specs.Prelude.{map}
 use Rattle.std.specs.List.{range_with_len}
 use Rattle.std.proofs.lemmas.List.FromFn.{map-range_with_len_more}
 use Rattle.tree_maker.specs.Draws.{next, after, draw}
-use Rattle.tree_maker.specs.Made.{count_of, depends_count, targets, last_draw}
+use Rattle.tree_maker.specs.Made.{depends_count, targets, last_draw}
 
 pub after_one : (k x : ℕ) → after (k + 1) x ≡ next (after k x)
 after_one k x = ap (λ n. after n x) (let e : k + 1 ≡ suc k = omega arith in e)

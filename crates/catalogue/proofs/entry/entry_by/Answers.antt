@@ -1,5 +1,5 @@
 use Rattle.std.proofs.Common.{◌≡◌, refl, ap, ◌∙◌, codes, length}
-use Rattle.serde_json.specs.Data.{Data, number, unsigned, string, object}
+use Rattle.serde_json.specs.Data.{number, unsigned, string, object}
 use Rattle.serde_json.specs.View.{members_view}
 use Rattle.serde_json.proofs.Views.{view-Object, view-Array}
 use Rattle.catalogue.specs.Catalogue.{entry_by}

@@ -1,5 +1,4 @@
-use Rattle.std.proofs.Common.{ap, ◌∙◌, ◌++◌, map}
-use Rattle.std.specs.Option.{option_to_list}
+use Rattle.std.proofs.Common.{map}
 use Rattle.std.specs.String.{string_bytes}
 use Rattle.status_lists.specs.Entries.{entry_in}
 use Rattle.status_lists.specs.Fates.{fate_in}

@@ -3,7 +3,7 @@ use Rattle.std.specs.Prelude.{codes}
 use Rattle.std.specs.List.{All, flat_map}
 use Rattle.std.specs.String.{string_bytes}
 use Rattle.bulk_model.specs.DryLists.{dry_statuses}
-use Rattle.bulk_model.specs.Lists.{listed, node_words, notice_line, stale_entry}
+use Rattle.bulk_model.specs.Lists.{listed, notice_line, stale_entry}
 use Rattle.status_lists.proofs.Assembling.{dry_lists_are}
 use Rattle.status_lists.proofs.Ordering.{order_nodes}
 use Rattle.status_lists.proofs.printing.dry_text.Goals as goal

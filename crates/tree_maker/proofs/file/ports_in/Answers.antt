@@ -1,4 +1,4 @@
-use Rattle.std.proofs.Common.{ap, ◌∙◌}
+use Rattle.std.proofs.Common.{ap}
 use Rattle.std.specs.Prelude.{◌==◌}
 use Rattle.tree_maker.specs.Made.{category_of}
 use Rattle.tree_maker.proofs.Ranges.{passing_more}

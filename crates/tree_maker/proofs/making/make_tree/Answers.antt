@@ -1,6 +1,5 @@
-use Rattle.std.proofs.Common.{◌≡◌, Option, Some, None, ap, sym, ◌∙◌}
+use Rattle.std.proofs.Common.{◌≡◌, None, ap, ◌∙◌}
 use Rattle.std.specs.FinMap.{keys}
-use Rattle.outside.specs.Errors.{IfNotFolder}
 use Rattle.outside.specs.Given.{content_of, first_folder}
 use Rattle.tree_maker.proofs.Apart.{none_is_folder}
 use Rattle.tree_maker.proofs.making.make_tree.Goals as goal

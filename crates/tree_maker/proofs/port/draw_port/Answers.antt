@@ -1,4 +1,4 @@
-use Rattle.std.proofs.Common.{◌≡◌, ◌/◌, ◌%◌, ◌^◌, ap, sym, ◌∙◌}
+use Rattle.std.proofs.Common.{◌≡◌, ◌/◌, ◌%◌, ◌^◌, ap, ◌∙◌}
 use Rattle.tree_maker.specs.Draws.{next}
 use Rattle.tree_maker.specs.Made.{count_of, depends_count}
 use Rattle.tree_maker.proofs.Drawing.{targets_are, last_is}
