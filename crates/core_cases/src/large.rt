@@ -94,7 +94,7 @@ fn edges_of(alloc: Global, shape: &str, count: u32) -> Result<EdgeLists, CaseErr
 }
 
 /// A chain, a fan or groups of so many nodes, of which the first may be ignored.
-pub(crate) fn plan_in(
+pub(crate) fn plan_marked(
     alloc: Global,
     shape: &str,
     count: &str,
@@ -106,6 +106,10 @@ pub(crate) fn plan_in(
     plan_with(alloc, edges, marks.as_slice())
 }
 
+fn plan_in(alloc: Global, shape: &str, count: &str) -> Result<Plan, CaseError> {
+    plan_marked(alloc, shape, count, false)
+}
+
 /// One builder over a chain, a fan or groups of so many nodes.
 pub(crate) fn answer_many(
     alloc: Global,
@@ -113,7 +117,7 @@ pub(crate) fn answer_many(
     count: &str,
     out: &mut Vec<u8>,
 ) -> Result<(), CaseError> {
-    let plan = plan_in(alloc, shape, count, false)?;
+    let plan = plan_in(alloc, shape, count)?;
     push_many(alloc, &plan, out)
 }
 
@@ -124,7 +128,7 @@ pub(crate) fn answer_made(
     count: &str,
     out: &mut Vec<u8>,
 ) -> Result<(), CaseError> {
-    let plan = plan_in(alloc, shape, count, false)?;
+    let plan = plan_in(alloc, shape, count)?;
     push_number(alloc, out, plan.jobs.len() as u64)?;
     Ok(push_str(out, " nodes")?)
 }

@@ -1,5 +1,5 @@
-//! Cases of the queue of a plan's nodes, of one builder and of what is printed: a line of standard input each, with fields
-//! between bars, and an answer a line.
+//! Cases of the queue of a plan's nodes, of one builder and of what is printed: a line of standard
+//! input each, with fields between bars, and an answer a line.
 #![tactic(auto)]
 
 mod alone;

@@ -4,7 +4,7 @@ ghost use Rattle.bulk_model.specs.Fit.{FitsKept, FitsResults};
 use crate::alone::{fails_of, fault_of, kept_of, plan_from};
 use crate::baker::Scripted;
 use crate::kept::fits_kept;
-use crate::large::{none_kept, plan_in};
+use crate::large::{none_kept, plan_marked};
 use crate::written::{Marks, Written, written_of};
 use bulk_base::Sequence;
 use bulk_core::run_alone;
@@ -194,6 +194,6 @@ pub(crate) fn answer_skipped(
     count: &str,
     out: &mut Vec<u8>,
 ) -> Result<(), CaseError> {
-    let plan = plan_in(alloc, shape, count, true)?;
+    let plan = plan_marked(alloc, shape, count, true)?;
     Ok(push_many(alloc, &plan, out)?)
 }
