@@ -67,7 +67,7 @@ fn name_of(alloc: Global, job: &Job) -> Result<Text, NoMemory> {
     job.name.copy(alloc)
 }
 
-fn fails_of(alloc: Global, plan: &Plan, marks: &[Marks]) -> Result<Texts, NoMemory> {
+pub(crate) fn fails_of(alloc: Global, plan: &Plan, marks: &[Marks]) -> Result<Texts, NoMemory> {
     let mut names = Sequence::new(alloc);
     for n in 0..plan.jobs.len() {
         if n < marks.len() && marks[n].fails {

@@ -12,6 +12,7 @@ use bulk_model::{EdgeLists, Kept, Plan, Results};
 use case_text::{CaseError, number_of, push_number, push_str, push_text};
 use std::alloc::Global;
 
+/// No package is kept.
 pub(crate) fn none_kept(alloc: Global, plan: &Plan) -> Result<Kept, NoMemory> {
     let mut packages = Sequence::new(alloc);
     for _ in 0..plan.jobs.len() {
@@ -20,9 +21,16 @@ pub(crate) fn none_kept(alloc: Global, plan: &Plan) -> Result<Kept, NoMemory> {
     Ok(Kept { packages })
 }
 
-/// So many nodes of which nothing is said.
-fn no_marks(alloc: Global, count: usize) -> Result<Vec<Marks>, NoMemory> {
-    Ok(vec![in alloc; Marks::none(); count]?)
+/// So many nodes of which nothing is said, but perhaps that the first is ignored.
+fn marks_of(alloc: Global, count: usize, is_first_ignored: bool) -> Result<Vec<Marks>, NoMemory> {
+    let mut marks = vec![in alloc; Marks::none(); count]?;
+    if is_first_ignored && !marks.is_empty() {
+        marks[0] = Marks {
+            ignored: true,
+            ..Marks::none()
+        };
+    }
+    Ok(marks)
 }
 
 fn built(results: &Results) -> usize {
@@ -85,11 +93,22 @@ fn edges_of(alloc: Global, shape: &str, count: u32) -> Result<EdgeLists, CaseErr
     }
 }
 
-pub(crate) fn plan_in(alloc: Global, shape: &str, count: &str) -> Result<Plan, CaseError> {
+/// A chain, a fan or groups of so many nodes, of which the first may be ignored.
+pub(crate) fn plan_marked(
+    alloc: Global,
+    shape: &str,
+    count: &str,
+    is_first_ignored: bool,
+) -> Result<Plan, CaseError> {
     let count = number_of(count)?.min(50_000) as u32;
     let edges = edges_of(alloc, shape, count)?;
-    let marks = no_marks(alloc, edges.len())?;
+    let marks = marks_of(alloc, edges.len(), is_first_ignored)?;
     plan_with(alloc, edges, marks.as_slice())
+}
+
+/// A chain, a fan or groups of so many nodes, of which nothing is said.
+pub(crate) fn plan_in(alloc: Global, shape: &str, count: &str) -> Result<Plan, CaseError> {
+    plan_marked(alloc, shape, count, false)
 }
 
 /// One builder over a chain, a fan or groups of so many nodes.

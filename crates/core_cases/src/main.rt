@@ -1,5 +1,5 @@
-//! Cases of the queue of a plan's nodes, of one builder and of the claim table: a line of standard
-//! input each, with fields between bars, and an answer a line.
+//! Cases of the queue of a plan's nodes, of one builder, of the claim table and of what is printed:
+//! a line of standard input each, with fields between bars, and an answer a line.
 #![tactic(auto)]
 
 mod alone;
@@ -11,6 +11,7 @@ mod looks;
 mod many;
 mod plans;
 mod ports;
+mod printed;
 mod queues;
 mod scan;
 mod testing;
@@ -35,6 +36,13 @@ fn answer<R: Threads + Sync>(
         ["mixed ends", count, seed] => queues::answer_mix(alloc, count, seed, out),
         ["alone", plan] => answer_plan(alloc, plan, Shown::Alone, out),
         ["finish", plan] => answer_plan(alloc, plan, Shown::Finish, out),
+        ["lists", plan, deleted, moved] => {
+            printed::answer_printed(alloc, [plan, deleted, moved], false, out)
+        }
+        ["dry lists", plan, deleted, moved] => {
+            printed::answer_printed(alloc, [plan, deleted, moved], true, out)
+        }
+        ["skipped", shape, count] => printed::answer_skipped(alloc, shape, count, out),
         ["many", shape, count] => large::answer_many(alloc, shape, count, out),
         ["made", shape, count] => large::answer_made(alloc, shape, count, out),
         ["seats", plan, steps] => two_seats::answer_steps(alloc, plan, steps, out),

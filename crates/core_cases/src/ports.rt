@@ -1,22 +1,23 @@
 // Ports without files and commands.
-ghost use Rattle.std.specs.Prelude.{◌≡◌, IfOk};
-ghost use Rattle.bulk_base.specs.Names.{IsPackageName};
+ghost use Rattle.std.specs.Prelude.{◌≡◌, IfOk, IsTrue};
+ghost use Rattle.bulk_base.specs.Names.{IsPackageName, is_flavor};
 
 use bulk_base::{NoMemory, Sequence, Text};
 use bulk_model::{Job, Steps};
 use case_text::CaseError;
-use port_name::{NameError, NameParts, pkgname};
+use port_name::{NameError, NameParts, flavor, pkgname};
 use std::alloc::Global;
 
-/// A port with nothing to do, by the name of its package.
-pub(crate) fn bare(alloc: Global, name: Text) -> Result<Job, NoMemory>
-    requires { IsPackageName name }
+/// A port with nothing to do, by the name of its package and its flavor.
+fn bare(alloc: Global, name: Text, flavor: Text) -> Result<Job, NoMemory>
+    requires name { IsPackageName name }
+    requires flavor { IsTrue (is_flavor flavor) }
 {
     let origin = Text::of(alloc, b"a/x")?;
     Ok(Job {
         name,
         origin,
-        flavor: None,
+        flavor: Some(flavor),
         options: Sequence::new(alloc),
         depends: Sequence::new(alloc),
         steps: Steps {
@@ -59,8 +60,20 @@ pub(crate) fn name_of(alloc: Global, portname: &str) -> Result<Text, CaseError>
     }
 }
 
-/// A port by PORTNAME. Unfit where that is none.
+/// A flavor. Unfit where the word is none.
+fn flavor_of(alloc: Global, word: &str) -> Result<Text, CaseError>
+    ensures { IfOk result (λ found. IsTrue (is_flavor found)) }
+{
+    let word = Text::from_bytes(alloc, word.as_bytes())?;
+    match flavor(alloc, &word) {
+        Ok(found) => Ok(found),
+        Err(error) => Err(fault_of(error)),
+    }
+}
+
+/// A port by PORTNAME, which is its flavor too. Unfit where that is none.
 pub(crate) fn port(alloc: Global, portname: &str) -> Result<Job, CaseError> {
     let name = name_of(alloc, portname)?;
-    Ok(bare(alloc, name)?)
+    let flavor = flavor_of(alloc, portname)?;
+    Ok(bare(alloc, name, flavor)?)
 }

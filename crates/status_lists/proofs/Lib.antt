@@ -1,0 +1,5 @@
+pub mod Causes
+pub mod Telling
+pub mod Entering
+pub mod Ordering
+pub mod Assembling
