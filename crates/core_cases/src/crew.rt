@@ -68,7 +68,7 @@ fn work_all<R: Threads + Sync>(
     requires crew { All (λ w. IsIdle table.now w.seat.view.shares w.seat) crew.old }
     ensures { (i : _) (d : _) → i < length crew.old
         → IsIdle table.now (slice_index_or crew.old i d).seat.view.shares
-            (slice_index_or crew.new i d).seat }
+        (slice_index_or crew.new i d).seat }
 {
     let each = |_: usize, worker: &mut Worker|
         requires about { IsAbout table.now plan.now kept.now }

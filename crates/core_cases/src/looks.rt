@@ -184,12 +184,7 @@ fn sees_some_bad(table: &Table<Untold>, plan: &Plan, seat: &mut Seat, edges: &[E
 }
 
 /// Skips a node of which a dependency is seen as bad; none where none is.
-pub(crate) fn try_skip(
-    table: &Table<Untold>,
-    plan: &Plan,
-    seat: &mut Seat,
-    n: u32,
-) -> Option<bool>
+pub(crate) fn try_skip(table: &Table<Untold>, plan: &Plan, seat: &mut Seat, n: u32) -> Option<bool>
     requires about { table.now.task.plan ≡ plan.now }
     requires seat { IsOf table.now seat.old }
     requires node { n < length plan.now.jobs }

@@ -52,11 +52,7 @@ fn answer<R: Threads + Sync>(
 }
 
 /// The line of an answer. An empty line and one that begins with `#` are headings, and answer themselves.
-fn answer_line<R: Threads + Sync>(
-    rt: &R,
-    alloc: Global,
-    line: &str,
-) -> Result<String, AllocError> {
+fn answer_line<R: Threads + Sync>(rt: &R, alloc: Global, line: &str) -> Result<String, AllocError> {
     if line.is_empty() || line.starts_with('#') {
         return line.to_string(alloc);
     }

@@ -170,7 +170,14 @@ fn act_idle(
     }
 }
 
-fn end(alloc: Global, table: &Table<Untold>, plan: &Plan, fails: bool, seat: &mut Seat, ticket: Ticket) -> Said
+fn end(
+    alloc: Global,
+    table: &Table<Untold>,
+    plan: &Plan,
+    fails: bool,
+    seat: &mut Seat,
+    ticket: Ticket,
+) -> Said
     requires about { table.now.task.plan ≡ plan.now }
     requires seat { IsOf table.now seat.old }
     requires ticket { IsTicketOf table.now seat.old ticket }
@@ -309,8 +316,9 @@ fn take_steps(
     let mut of_p = None;
     let mut of_q = None;
     for i in 0..steps.len() {
-        let (first, second, said) =
-            act_by(alloc, table, plan, kept, marks, p, of_p, q, of_q, steps[i]);
+        let (first, second, said) = act_by(
+            alloc, table, plan, kept, marks, p, of_p, q, of_q, steps[i],
+        );
         of_p = first;
         of_q = second;
         answers[i] = said;
@@ -432,14 +440,7 @@ fn push_steps(
     let plan = Shared::new(alloc, plan)?;
     let kept = Shared::new(alloc, kept)?;
     let mut answers = vec![in alloc; Said::Unfit; steps.len()]?;
-    let partial = play(
-        alloc,
-        &plan,
-        &kept,
-        marks,
-        steps,
-        answers.as_mut_slice(),
-    )?;
+    let partial = play(alloc, &plan, &kept, marks, steps, answers.as_mut_slice())?;
     push_play(answers.as_slice(), &partial, out)
 }
 
