@@ -2,13 +2,14 @@
 ghost use Rattle.std.specs.Prelude.{◌≡◌, ◌<◌, true, length, map, None, IfOk, IfErr};
 ghost use Rattle.std.specs.List.{list_all, list_any};
 ghost use Rattle.bulk_model.specs.Installs.{has};
+ghost use Rattle.bulk_model.specs.PlanView.{job_at};
 ghost use Rattle.claim_table.specs.Seats.{IsOf, IsTicketOf, KnowsMore, is_known, knows_all};
 ghost use Rattle.claim_table.specs.Words as words;
 ghost use Rattle.core_cases.specs.Seating.{IsAbout};
 
 use crate::baker::plain_outcome;
 use crate::kept::{is_ignored, is_kept};
-use bulk_model::{Edge, Kept, Plan};
+use bulk_model::{Edge, Job, Kept, Plan};
 use claim_table::{Seat, Table, Taken, Ticket, Word};
 use outside::Untold;
 use std::alloc::Global;
@@ -120,6 +121,13 @@ pub(crate) fn try_claim(
     }
 }
 
+fn job_of(plan: &Plan, n: u32) -> &Job
+    requires { n < length plan.now.jobs }
+    ensures { result.now ≡ job_at plan.now n }
+{
+    &plan.jobs.as_slice()[n as usize]
+}
+
 /// Ends a claim with the package of its job, or with a failure where it fails. Answers false where it is
 /// given up for want of memory.
 pub(crate) fn end_claim(
@@ -137,7 +145,8 @@ pub(crate) fn end_claim(
     ensures shares { seat.new.view.shares ≡ seat.old.view.shares }
     ensures idle { seat.new.view.holds ≡ None }
 {
-    let job = &plan.jobs.as_slice()[ticket.node() as usize];
+    let n = ticket.node();
+    let job = job_of(plan, n);
     match plain_outcome(alloc, &plan.base, job, fails) {
         Ok(outcome) => {
             table.end(seat, ticket, outcome);
