@@ -1,29 +1,34 @@
 -- What one turn does keeps what holds of the store.
-use Rattle.std.proofs.Common.{◌≡◌, ◌⊎◌, ℕ, ◌<◌, ◌≤◌, Bool, true, false, not, ◌||◌, List, [], ◌∷◌, ◌++◌, length, get_or, set, Option, Some, None, Result, Ok, Err, OnOk, OnErr, IsTrue, refl, sym, ap, subst, ◌∙◌, inl, inr, ⊎_elim, arith}
+use Rattle.std.proofs.Common.{◌≡◌, ◌⊎◌, ℕ, zero, suc, ◌<◌, ◌≤◌, Bool, true, false, not, ◌||◌, List, [], ◌∷◌, ◌++◌, length, get_or, set, Option, Some, None, Result, Ok, Err, OnOk, OnErr, IsTrue, refl, sym, ap, subst, ◌∙◌, inl, inr, ⊎_elim, arith}
+use Rattle.std.specs.List.{list_all}
 use Rattle.std.proofs.Math.ListN.{length-set}
+use Rattle.std.proofs.lemmas.Bool.{and_parts, and_from}
+use Rattle.std.proofs.lemmas.List.{append-nil}
+use Rattle.atomic_table.specs.Table.{Me}
 use Rattle.outside.specs.Changes.{Made, TookEffect}
 use Rattle.outside.specs.Faults.{HasCause}
-use Rattle.outside.specs.declared.change.Change.{Change}
 use Rattle.outside.specs.declared.change.Change.TheVariants.{Put}
 use Rattle.outside.specs.declared.outer.Outer.{Outer}
 use Rattle.outside.specs.declared.outer.Outer.TheVariants.{Fault, NoMemory}
+use Rattle.bulk_base.proofs.Least.{none-pass, all-fail}
 use Rattle.bulk_model.specs.declared.plan.Kept.{Kept as KeptPackages}
+use Rattle.bulk_model.specs.Flags.{flag, Within}
+use Rattle.bulk_model.specs.Installs.{has}
+use Rattle.bulk_model.specs.Journal.{IsPutOf}
 use Rattle.bulk_model.specs.PlanView.{PlanView, depends, is_ignored}
 use Rattle.bulk_model.specs.Results.{is_kept}
-use Rattle.store_desk.specs.declared.attempt.Keep.TheVariants.{Later, NoMemory as KeepNoMemory}
-use Rattle.store_desk.specs.declared.view.Origin.{Origin}
-use Rattle.store_desk.specs.declared.view.Held.{Held}
-use Rattle.store_desk.specs.Flags.{flag, Within, newly}
-use Rattle.store_desk.specs.Told.{Lore, file_of, is_done, DependsOn, AllDone, least_open, IsRight, HasPut, IsKeptPut, IsWritten, IsSound}
-use Rattle.store_desk.specs.Attempts.{Attempted, AfterKeep, answer_of}
-use Rattle.store_desk.specs.declared.view.View.{View}
 use Rattle.store_desk.specs.declared.attempt.Keep.{Keep}
-use Rattle.store_desk.specs.Steps.{after_take, after_give}
+use Rattle.store_desk.specs.declared.attempt.Keep.TheVariants.{Later, NoMemory as KeepNoMemory}
+use Rattle.store_desk.specs.declared.view.Held.{Held}
+use Rattle.store_desk.specs.declared.view.Origin.{Origin}
+use Rattle.store_desk.specs.declared.view.View.{View}
+use Rattle.store_desk.specs.Attempts.{Attempted, AfterKeep, answer_of}
+use Rattle.store_desk.specs.Changes.{after_take, after_give}
+use Rattle.store_desk.specs.Marks.{newly}
 use Rattle.store_desk.specs.Seats.{front}
-use Rattle.atomic_table.specs.Table.{Me}
-use Rattle.std.proofs.lemmas.List.{append-nil}
+use Rattle.store_desk.specs.Told.{Lore, file_of, is_done, all_done, least_open, IsRight}
+use Rattle.store_desk.specs.Written.{put_nodes, passes, IsWritten, IsSound}
 use Rattle.store_desk.proofs.Marks.{set-marked, set-within, set-here, newly-same, newly-set}
-use Rattle.bulk_base.proofs.Least.{none-pass, all-fail}
 use Rattle.store_desk.proofs.Puts.{written-more, written-same}
 
 -- what is known of a put and of its marks
@@ -43,26 +48,38 @@ not-false : (b : Bool) → not b ≡ false → b ≡ true
 not-false true e = refl
 not-false false e = absurd (cc)
 
-pub all-done : (plan : PlanView) (kept : KeptPackages) (saved : List Bool) (n : ℕ) → least_open plan kept saved n ≡ None → AllDone plan kept saved n
-all-done plan kept saved n e d dep =
-    let undone : not (is_done kept saved (get_or (depends plan n) dep.0 0)) ≡ false = none-pass (λ (m : ℕ). not (is_done kept saved m)) (depends plan n) e dep.0 dep.1 in
-    not-false (is_done kept saved d) (subst (λ (m : ℕ). not (is_done kept saved m) ≡ false) dep.2 undone)
+-- what holds at each place holds of all, and the other way round
+all-from : (f : ℕ → Bool) (xs : List ℕ) → ((k : ℕ) → k < length xs → f (get_or xs k 0) ≡ true) → list_all f xs ≡ true
+all-from f [] h = refl
+all-from f (x ∷ xs) h = and_from (f x) (list_all f xs) (h 0 (omega arith)) (all-from f xs (λ k l. h (suc k) (omega arith)))
 
-done-more : (kept : KeptPackages) (saved saved2 : List Bool) (d : ℕ) → Within saved saved2 → is_done kept saved d ≡ true → is_done kept saved2 d ≡ true
-done-more kept saved saved2 d more e = ored (is_kept kept d) (flag saved d) (flag saved2 d) (more d) e
-  where
-    ored : (a b c : Bool) → (b ≡ true → c ≡ true) → (a || b) ≡ true → (a || c) ≡ true
-    ored true b c f e = refl
-    ored false b c f e = f e
+all-at : (f : ℕ → Bool) (xs : List ℕ) → list_all f xs ≡ true → (k : ℕ) → k < length xs → f (get_or xs k 0) ≡ true
+all-at f [] e k l = absurd (omega arith)
+all-at f (x ∷ xs) e zero l = (and_parts (f x) (list_all f xs) e).0
+all-at f (x ∷ xs) e (suc k) l = all-at f xs (and_parts (f x) (list_all f xs) e).1 k (omega arith)
 
-done-saved : (a b : Bool) → (a || b) ≡ true → a ≡ false → b ≡ true
-done-saved true b e f = absurd (cc)
-done-saved false b e f = e
+all-more : (f g : ℕ → Bool) → ((d : ℕ) → f d ≡ true → g d ≡ true) → (xs : List ℕ) → list_all f xs ≡ true → list_all g xs ≡ true
+all-more f g more [] e = refl
+all-more f g more (x ∷ xs) e = let p = and_parts (f x) (list_all f xs) e in and_from (g x) (list_all g xs) (more x p.0) (all-more f g more xs p.1)
 
--- with more saved nodes there is still no dependency left
+-- where no dependency is open all are done, and the other way round
+pub none-open : (plan : PlanView) (kept : KeptPackages) (saved : List Bool) (n : ℕ) → least_open plan kept saved n ≡ None → all_done plan kept saved n ≡ true
+none-open plan kept saved n e = all-from (is_done kept saved) (depends plan n) (λ k h. not-false (is_done kept saved (get_or (depends plan n) k 0)) (none-pass (λ (d : ℕ). not (is_done kept saved d)) (depends plan n) e k h))
+
+all-closed : (plan : PlanView) (kept : KeptPackages) (saved : List Bool) (n : ℕ) → all_done plan kept saved n ≡ true → least_open plan kept saved n ≡ None
+all-closed plan kept saved n e = all-fail (λ (d : ℕ). not (is_done kept saved d)) (depends plan n) (λ k h. ap not (all-at (is_done kept saved) (depends plan n) e k h))
+
+or-more : (a b c : Bool) → (b ≡ true → c ≡ true) → (a || b) ≡ true → (a || c) ≡ true
+or-more true b c f e = refl
+or-more false b c f e = f e
+
+-- with more saved nodes no less is done
+done-more : (plan : PlanView) (kept : KeptPackages) (saved saved2 : List Bool) (n : ℕ) → Within saved saved2 → all_done plan kept saved n ≡ true → all_done plan kept saved2 n ≡ true
+done-more plan kept saved saved2 n more = all-more (is_done kept saved) (is_done kept saved2) (λ d e. or-more (is_kept kept d) (flag saved d) (flag saved2 d) (more d) e) (depends plan n)
+
+-- and there is still no dependency left
 still-none : (plan : PlanView) (kept : KeptPackages) (saved saved2 : List Bool) (n : ℕ) → Within saved saved2 → least_open plan kept saved n ≡ None → least_open plan kept saved2 n ≡ None
-still-none plan kept saved saved2 n more e =
-    all-fail (λ (d : ℕ). not (is_done kept saved2 d)) (depends plan n) (λ k h. ap not (done-more kept saved saved2 (get_or (depends plan n) k 0) more (all-done plan kept saved n e (get_or (depends plan n) k 0) (k, h, refl))))
+still-none plan kept saved saved2 n more e = all-closed plan kept saved2 n (done-more plan kept saved saved2 n more (none-open plan kept saved n e))
 
 module _ {X : Type 0} (l : Lore X) (o : Origin) where
   pub later-attempted : (n d : ℕ) (before : Held X) → IsSound l o before → least_open o.plan o.kept before.saved n ≡ Some d → Attempted l o n before before (Later d)
@@ -78,36 +95,36 @@ module _ {X : Type 0} (l : Lore X) (o : Origin) where
     now-tried : flag now.tried n ≡ true
     now-tried = let size = s.places in let inside = f.inside in subst (λ (xs : List Bool). flag xs n ≡ true) (sym f.tried) (set-here before.tried n (omega arith))
 
-    is-put : (puts : List Change) → ((d : ℕ) → flag before.saved d ≡ true → HasPut (file_of o.plan d) puts) → IsKeptPut l o puts (Put (file_of o.plan n) bytes)
-    is-put puts have = record {
-      node = n;
+    is-put : (nodes : List ℕ) → ((d : ℕ) → flag before.saved d ≡ true → has nodes d ≡ true) → IsPutOf o.plan o.kept (passes l o) nodes n (Put (file_of o.plan n) bytes)
+    is-put nodes have = record {
+      node = f.inside;
+      new = f.made;
+      allowed = f.wanted;
+      behind = all-more (is_done o.kept before.saved) (λ d. is_kept o.kept d || has nodes d) (λ d e. or-more (is_kept o.kept d) (flag before.saved d) (has nodes d) (have d) e) (depends o.plan n) (none-open o.plan o.kept before.saved n f.least);
       bytes = bytes;
+      passing = f.right;
       is = refl;
-      inside = f.inside;
-      made = f.made;
-      wanted = f.wanted;
-      right = f.right;
-      after = λ d dep unkept. have d (done-saved (is_kept o.kept d) (flag before.saved d) (all-done o.plan o.kept before.saved n f.least d dep) unkept);
     }
 
     -- the marks and the journal where the put took effect
     took-effect : (saved : List Bool) → ((k : ℕ) → flag saved k ≡ true → (k ≡ n) ⊎ (flag before.saved k ≡ true)) → IsTrue l.tells
         → TookEffect (Put (file_of o.plan n) bytes) (l.content before.store) (l.content now.store) (l.journal before.store) (l.journal now.store)
-        → IsWritten l o saved now.tried (l.journal now.store) (l.content now.store)
+        → IsWritten l o saved (flag now.tried) (l.journal now.store) (l.content now.store)
     took-effect saved new tells e =
-        written-more l o before.saved before.tried now.tried (l.journal before.store) (l.journal now.store) (l.content before.store) (l.content now.store) n bytes
-        (s.written tells) e.journal e.content is-put more-tried now-tried saved new
+        let w = s.written tells in
+        written-more l o before.saved saved (flag before.tried) (flag now.tried) (l.journal before.store) (l.journal now.store) (l.content before.store) (l.content now.store) n bytes
+        w e.journal e.content (is-put (put_nodes o.plan o.kept (passes l o) [] w.puts w.ordered) w.saved_put) more-tried now-tried new
 
     tried-rooms : length now.tried ≡ length o.plan.jobs
     tried-rooms = ap length f.tried ∙ length-set before.tried n true ∙ s.places
 
     sound-now : Within before.saved now.saved → length now.saved ≡ length o.plan.jobs → ((k : ℕ) → flag now.saved k ≡ true → (k ≡ n) ⊎ (flag before.saved k ≡ true))
-        → (IsTrue l.tells → IsWritten l o now.saved now.tried (l.journal now.store) (l.content now.store)) → IsSound l o now
+        → (IsTrue l.tells → IsWritten l o now.saved (flag now.tried) (l.journal now.store) (l.content now.store)) → IsSound l o now
     sound-now more size new written = record {
       rooms = size;
       places = tried-rooms;
-      closed = λ m e d dep. done-more o.kept before.saved now.saved d more
-          (⊎_elim (λ same. all-done o.plan o.kept before.saved n f.least d (subst (λ (k : ℕ). DependsOn o.plan k d) same dep)) (λ old. s.closed m old d dep) (new m e));
+      closed = λ m e. done-more o.plan o.kept before.saved now.saved m more
+          (⊎_elim (λ same. subst (λ (k : ℕ). all_done o.plan o.kept before.saved k ≡ true) (sym same) (none-open o.plan o.kept before.saved n f.least)) (λ old. s.closed m old) (new m e));
       written = written;
     }
 
@@ -119,10 +136,10 @@ module _ {X : Type 0} (l : Lore X) (o : Origin) where
     same-more same = subst (λ (xs : List Bool). Within before.saved xs) (sym same) (λ k e. e)
 
     same-written : now.saved ≡ before.saved → IsTrue l.tells → l.journal now.store ≡ l.journal before.store → l.content now.store ≡ l.content before.store
-        → IsWritten l o now.saved now.tried (l.journal now.store) (l.content now.store)
+        → IsWritten l o now.saved (flag now.tried) (l.journal now.store) (l.content now.store)
     same-written same tells journal content =
-        subst (λ (xs : List Bool). IsWritten l o xs now.tried (l.journal now.store) (l.content now.store)) (sym same)
-        (written-same l o before.saved before.tried now.tried (l.journal before.store) (l.journal now.store) (l.content before.store) (l.content now.store) (s.written tells) journal content more-tried)
+        written-same l o before.saved now.saved (flag before.tried) (flag now.tried) (l.journal before.store) (l.journal now.store) (l.content before.store) (l.content now.store)
+        (s.written tells) journal content more-tried (λ k e. subst (λ (xs : List Bool). flag xs k ≡ true) same e)
 
     now-none : Within before.saved now.saved → least_open o.plan o.kept now.saved n ≡ None
     now-none more = still-none o.plan o.kept before.saved now.saved n more f.least

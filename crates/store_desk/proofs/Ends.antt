@@ -1,34 +1,36 @@
 -- The desk as it is made and as it is closed.
-use Rattle.std.proofs.Common.{◌≡◌, ◌≢◌, ℕ, zero, suc, ◌+◌, ◌≤◌, ◌==◌, Bool, true, false, List, [], ◌∷◌, replicate, length, nat_lt, slice_index, Option, Some, None, refl, sym, ap, subst, ◌∙◌, inr, arith}
+use Rattle.std.proofs.Common.{◌≡◌, ◌≢◌, ℕ, zero, suc, ◌+◌, ◌≤◌, ◌==◌, Bool, true, false, ◌||◌, List, [], ◌∷◌, replicate, length, nat_lt, slice_index, Option, Some, None, refl, sym, ap, subst, ◌∙◌, inr, arith}
 use mathlib.Core.Option.{some, some-injective, some-ne-none}
 use Rattle.std.proofs.lemmas.Bool.Decides.{nat_tests}
 use Rattle.std.proofs.lemmas.List.{append-nil, length-replicate}
-use Rattle.outside.specs.declared.change.Change.TheVariants.{Put}
-use Rattle.store_desk.specs.Steps.{after_give}
 use Rattle.store_desk.proofs.Marks.{none-marked, newly-none}
 use lib.ListN.{get_elem?}
 use Rattle.atomic_table.specs.Table.{Final, Seen, opening}
 use Rattle.store_desk.specs.declared.view.Origin.{Origin}
 use Rattle.store_desk.specs.declared.view.View.{View}
 use Rattle.store_desk.specs.declared.view.Held.{Held}
-use Rattle.store_desk.specs.Flags.{flag, one, times, newly}
-use Rattle.store_desk.specs.Told.{Lore, IsSound}
+use Rattle.store_desk.specs.Told.{Lore}
 use Rattle.store_desk.specs.Rule.{all_shares, nobody, beginner, first_view, Fits, Ruled}
 use Rattle.bulk_base.specs.Totals.{total, At}
 use Rattle.store_desk.specs.Rule.Place.{free, taken, empty}
 use Rattle.store_desk.specs.Seats.{IsClosed, IsFirst, front}
-use Rattle.bulk_base.proofs.Totals.{total-two, alone}
+use Rattle.bulk_base.proofs.Totals.{total-two, total-alone, alone}
+use Rattle.bulk_model.specs.Installs.{has}
+use Rattle.store_desk.proofs.Puts.{written-same}
 use Rattle.store_desk.proofs.Turns.{filled}
+use Rattle.store_desk.specs.Changes.{after_give}
+use Rattle.bulk_model.specs.Flags.{flag}
+use Rattle.store_desk.specs.Marks.{one, times, newly}
+use Rattle.store_desk.specs.Written.{IsSound}
 
-total-none : (f : View → ℕ) (views : List View) → ((j : ℕ) (u : View) → At views j u → f u ≡ 0) → total f views ≡ 0
-total-none f [] h = refl
-total-none f (x ∷ xs) h = let here : f x ≡ 0 = h 0 x refl in let rest : total f xs ≡ 0 = total-none f xs (λ j u e. h (suc j) u e) in omega arith
-
--- where the others have none, the sum is that of one view
-pub total-alone : (f : View → ℕ) (views : List View) (i : ℕ) (v : View) → At views i v → ((j : ℕ) (u : View) → At views j u → j ≢ i → f u ≡ 0) → total f views ≡ f v
-total-alone f [] i v at h = absurd (some-ne-none v (sym at))
-total-alone f (x ∷ xs) zero v at h = let same : f x ≡ f v = ap f ((alone x v 0 at).0) in let rest : total f xs ≡ 0 = total-none f xs (λ j u e. h (suc j) u e (λ z. omega arith)) in omega arith
-total-alone f (x ∷ xs) (suc i) v at h = let here : f x ≡ 0 = h 0 x refl (λ z. omega arith) in let rest : total f xs ≡ f v = total-alone f xs i v at (λ j u e ne. h (suc j) u e (λ z. ne (omega arith))) in omega arith
+-- what stands in a list is found there
+has-of : (n : ℕ) (ns : List ℕ) → 1 ≤ times n ns → has ns n ≡ true
+has-of n [] h = absurd (omega arith)
+has-of n (x ∷ xs) h = by-test (x == n) h
+  where
+    by-test : (b : Bool) → 1 ≤ one b + times n xs → (b || has xs n) ≡ true
+    by-test true g = refl
+    by-test false g = has-of n xs (omega arith)
 
 module _ {X : Type 0} (l : Lore X) (o : Origin) where
   pub begins : Ruled {X = X} l o (opening (2 ∷ []) (replicate 1 None) (first_view o))
@@ -43,7 +45,7 @@ module _ {X : Type 0} (l : Lore X) (o : Origin) where
   }
 
   pub closes : (id : ℕ) (v : View) (words : List ℕ) (slots : List (Option (Held X))) → v.shares ≡ all_shares → v.mark ≡ true → v.turn ≡ false
-      → Final (Seen (Ruled l o) id v) words slots → (h : Held X) × (get_elem? slots 0 ≡ some (Some h)) × IsClosed l o v h
+      → Final (Seen (Ruled l o) id v) words slots → (h : Held X) × (get_elem? slots 0 ≡ some (Some h)) × IsClosed l o v h.store h.saved
   closes id v words slots all mark off final =
       let s = final.0 in
       let r : Ruled l o s = final.1.0 in
@@ -55,12 +57,15 @@ module _ {X : Type 0} (l : Lore X) (o : Origin) where
         | free h ew eh ↦ (
           h,
           final.4 0 (Some h) (ap (λ hs. get_elem? hs 0) eh),
-          (let a = (r.home h eh).1 in record {
-            sound = (r.home h eh).0;
-            seen = a.seen id v at;
+          (let a = (r.home h eh).1 in
+          let sound : IsSound l o h = (r.home h eh).0 in
+          let mine : (n : ℕ) → flag h.tried n ≡ true → has v.mine n ≡ true = λ n e. has-of n v.mine (let f : View → ℕ = λ (u : View). times n u.mine in let some_mine : 1 ≤ total f s.views = a.tried n e in let same : total f s.views ≡ f v = only f refl in omega arith) in record {
+            places = sound.rooms;
             known = a.known id v at;
+            closed = sound.closed;
+            written = λ tells. written-same l o h.saved h.saved (flag h.tried) (has v.mine) (l.journal h.store) (l.journal h.store) (l.content h.store) (l.content h.store) (sound.written tells) refl refl mine (λ k e. e);
+            seen = a.seen id v at;
             still = λ calm. a.still (only (λ (u : View). one u.rose) refl ∙ ap one calm);
-            mine = λ n e. let f : View → ℕ = λ (u : View). times n u.mine in let some_mine : 1 ≤ total f s.views = a.tried n e in let same : total f s.views ≡ f v = only f refl in omega arith;
           }),
         )
         | taken ew eh ↦ absurd (let one_turn : total (λ u. one u.turn) s.views ≡ 1 = r.turns ∙ ap (λ (ws : List ℕ). one (slice_index ws 0 == 1)) ew in omega arith)
@@ -69,7 +74,7 @@ module _ {X : Type 0} (l : Lore X) (o : Origin) where
 
   -- the same as the calls of a close tell it
   pub slot-told : (id : ℕ) (v u : View) (words : List ℕ) (slots : List (Option (Held X))) (x : Option (Held X)) → u ≡ v → u.mark ≡ true → u.turn ≡ false → v.shares ≡ all_shares
-      → Final (Seen (Ruled l o) id v) words slots → get_elem? slots 0 ≡ some x → (h : Held X) × (x ≡ Some h) × IsClosed l o v h
+      → Final (Seen (Ruled l o) id v) words slots → get_elem? slots 0 ≡ some x → (h : Held X) × (x ≡ Some h) × IsClosed l o v h.store h.saved
   slot-told id v u words slots x same mark off all final is =
       let c = closes id v words slots all (ap (λ (y : View). y.mark) (sym same) ∙ mark) (ap (λ (y : View). y.turn) (sym same) ∙ off) final in
       (c.0, some-injective x (Some c.0) (sym is ∙ c.1), c.2)
@@ -85,8 +90,8 @@ module _ {X : Type 0} (l : Lore X) (o : Origin) where
       since = journal ∙ sym (append-nil o.journal);
       replays = content;
       ordered = tt;
-      holds = λ n e. absurd (let nil : flag h.saved n ≡ false = ap (λ (xs : List Bool). flag xs n) saved ∙ none-marked count n in cc);
-      under = λ name p. absurd (some-ne-none (Put name p.bytes) (sym p.is));
+      saved_put = λ n e. absurd (let nil : flag h.saved n ≡ false = ap (λ (xs : List Bool). flag xs n) saved ∙ none-marked count n in cc);
+      put_tried = λ n e. absurd (cc);
     };
   }
 

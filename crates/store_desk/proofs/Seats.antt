@@ -5,14 +5,15 @@ use Rattle.atomic_table.proofs.Lists.{set_else}
 use Rattle.store_desk.specs.declared.view.Origin.{Origin}
 use Rattle.store_desk.specs.declared.view.View.{View}
 use Rattle.store_desk.specs.declared.view.Held.{Held}
-use Rattle.store_desk.specs.Flags.{Within, one, times}
 use Rattle.store_desk.specs.Told.{Lore}
 use Rattle.store_desk.specs.Rule.{nobody, Fits, Above, AllMarked, IsFilled, Ruled}
 use Rattle.bulk_base.specs.Totals.{total, At}
-use Rattle.store_desk.specs.Steps.{first_part, second_part, together}
 use Rattle.bulk_base.proofs.Totals.{total-set, total-snoc, total-two, each-set, each-snoc}
 use Rattle.store_desk.proofs.Marks.{either-within, times-append}
 use Rattle.store_desk.proofs.Turns.{at_words, filled}
+use Rattle.bulk_model.specs.Flags.{Within}
+use Rattle.store_desk.specs.Marks.{one, times}
+use Rattle.store_desk.specs.Changes.{first_part, second_part, together}
 
 -- other views that have and know together what these do
 record Covers (o : Origin) (old new : List View) : Type 0 where

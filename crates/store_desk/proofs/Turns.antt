@@ -9,14 +9,17 @@ use Rattle.atomic_table.proofs.Lists.{at_set, set_again}
 use Rattle.store_desk.specs.declared.view.Origin.{Origin}
 use Rattle.store_desk.specs.declared.view.View.{View}
 use Rattle.store_desk.specs.declared.view.Held.{Held}
-use Rattle.store_desk.specs.Flags.{flag, Within, one, times, newly}
-use Rattle.store_desk.specs.Told.{Lore, IsSound}
+use Rattle.store_desk.specs.Told.{Lore}
 use Rattle.store_desk.specs.Rule.{all_shares, beginner, first_view, Fits, Above, AllMarked, IsFresh, IsFilled, Ruled}
 use Rattle.bulk_base.specs.Totals.{total, At}
 use Rattle.store_desk.specs.Rule.Place.{free, taken, empty}
-use Rattle.store_desk.specs.Steps.{after_take, after_give, TakeTurn, takes_then, first_takes_then, gives_then}
 use Rattle.bulk_base.proofs.Totals.{total-set, total-least, each-set, alone}
 use Rattle.store_desk.proofs.Marks.{newly-has, times-append}
+use Rattle.bulk_model.specs.Flags.{flag, Within}
+use Rattle.store_desk.specs.Marks.{one, times, newly}
+use Rattle.store_desk.specs.Written.{IsSound}
+use Rattle.store_desk.specs.Changes.{after_take, after_give}
+use Rattle.store_desk.specs.Steps.{TakeTurn, takes_then, first_takes_then, gives_then}
 
 -- a state of the table
 abbrev pub at_words : {X : Type 0} → List ℕ → List (maybe.Option (Option (Held X))) → List View → State (Option (Held X)) View
@@ -211,7 +214,7 @@ module _ {X : Type 0} (l : Lore X) (o : Origin) where
             ) in
             subst (λ (ws : List ℕ). Goal ws s.homes) (sym ew) (subst (λ (hs : List (maybe.Option (Option (Held X)))). Goal (0 ∷ []) hs) (sym eh) here) r
         | taken ew eh ↦
-            let here : Goal (1 ∷ []) (none ∷ []) = λ q. (v, keeps, tt, subst (λ (vs : List View). Ruled l o (at_words (1 ∷ []) (none ∷ []) vs)) (sym (set_again s.views id v at)) q, ((λ _. refl), (λ e. absurd (omega arith)))) in
+            let here : Goal (1 ∷ []) (none ∷ []) = λ q. (v, keeps, tt, subst (λ (vs : List View). Ruled l o (at_words (1 ∷ []) (none ∷ []) vs)) (sym (set_again s.views id v at)) q, ((λ _. record { is = refl }), (λ e. absurd (omega arith)))) in
             subst (λ (ws : List ℕ). Goal ws s.homes) (sym ew) (subst (λ (hs : List (maybe.Option (Option (Held X)))). Goal (1 ∷ []) hs) (sym eh) here) r
         | empty ew eh ↦ absurd ((filled s id v r at mark).word ew)
       ]
@@ -224,7 +227,7 @@ module _ {X : Type 0} (l : Lore X) (o : Origin) where
       elim r.place [
         | free k ew eh ↦ absurd (let nil : total (λ u. one u.turn) s.views ≡ 0 = r.turns ∙ ap (λ (ws : List ℕ). one (slice_index ws 0 == 1)) ew in let off : v.turn ≡ false = no-turn s.views id v nil at in cc)
         | taken ew eh ↦
-            let here : Goal (1 ∷ []) (none ∷ []) = λ q. (after_give l.faults v h, gives, tt, gives-taken s.views id v h share turn sound later more q at, (h, refl, refl)) in
+            let here : Goal (1 ∷ []) (none ∷ []) = λ q. (after_give l.faults v h, gives, tt, gives-taken s.views id v h share turn sound later more q at, record { held = h; slot = refl; is = refl }) in
             subst (λ (ws : List ℕ). Goal ws s.homes) (sym ew) (subst (λ (hs : List (maybe.Option (Option (Held X)))). Goal (1 ∷ []) hs) (sym eh) here) r
         | empty ew eh ↦ absurd (let nil : total (λ u. one u.turn) s.views ≡ 0 = r.turns ∙ ap (λ (ws : List ℕ). one (slice_index ws 0 == 1)) ew in let off : v.turn ≡ false = no-turn s.views id v nil at in cc)
       ]
@@ -244,7 +247,7 @@ module _ {X : Type 0} (l : Lore X) (o : Origin) where
         | free k e eh ↦ absurd (cc)
         | taken e eh ↦ absurd (cc)
         | empty e eh ↦
-            let here : Goal (2 ∷ []) (some None ∷ []) = (beginner o true, takes 0 None, refl, first-takes-empty s.views id b (first_view o) f.only at, (refl, refl)) in
+            let here : Goal (2 ∷ []) (some None ∷ []) = (beginner o true, takes 0 None, refl, first-takes-empty s.views id b (first_view o) f.only at, record { word = refl; is = refl }) in
             subst (λ (ws : List ℕ). Goal ws s.homes) (sym e) (subst (λ (hs : List (maybe.Option (Option (Held X)))). Goal (2 ∷ []) hs) (sym eh) here)
       ])
       r.marks
@@ -285,11 +288,11 @@ module _ {X : Type 0} (l : Lore X) (o : Origin) where
   -- what is known after the turn was given back
   pub gives-told : (me after : Me (Option (Held X)) View) (v : View) (h : Held X) → ◌≡◌ {A = Me (Option (Held X)) View} me (v, (0, Some h) ∷ []) → gives_then l me 0 after → ◌≡◌ {A = Me (Option (Held X)) View} after (after_give l.faults v h, [])
   gives-told me after v h e told =
-      let k : Held X = told.0 in
-      let slot : (0, Some k) ∷ [] ≡ (0, Some h) ∷ [] = sym told.1 ∙ ap (λ (m : Me (Option (Held X)) View). m.1) e in
+      let k : Held X = told.held in
+      let slot : (0, Some k) ∷ [] ≡ (0, Some h) ∷ [] = sym told.slot ∙ ap (λ (m : Me (Option (Held X)) View). m.1) e in
       let same : k ≡ h = some_of (ap slot_of slot) in
       let view : me.0 ≡ v = ap (λ (m : Me (Option (Held X)) View). m.0) e in
-      told.2 ∙ subst (λ (x : Held X). ◌≡◌ {A = Me (Option (Held X)) View} (after_give l.faults me.0 k, []) (after_give l.faults me.0 x, [])) same refl ∙ ap (λ (u : View). let r : Me (Option (Held X)) View = (after_give l.faults u h, []) in r) view
+      told.is ∙ subst (λ (x : Held X). ◌≡◌ {A = Me (Option (Held X)) View} (after_give l.faults me.0 k, []) (after_give l.faults me.0 x, [])) same refl ∙ ap (λ (u : View). let r : Me (Option (Held X)) View = (after_give l.faults u h, []) in r) view
 
   pub first-takes-owed : (slots id : ℕ) (o2 : Origin) (me : Me (Option (Held X)) View) → o2 ≡ o → ◌≡◌ {A = Me (Option (Held X)) View} me (first_view o2, []) → Allows (Ruled {X = X} l o) slots id me 0 (λ n. either (n == 2) 1 n) (first_takes_then me)
   first-takes-owed slots id o2 me same is =

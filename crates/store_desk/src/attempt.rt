@@ -130,8 +130,8 @@ pub(crate) fn attempt<S: Store, M: Ways>(
     if let Some(node) = least_open(plan, kept, &held.saved, n) {
         return Keep::Later { node };
     }
-    match name {
-        Ok(name) => answer_of(put_in(alloc, held, n, name, file)),
-        Err(_) => Keep::NoMemory,
-    }
+    let Ok(name) = name else {
+        return Keep::NoMemory;
+    };
+    answer_of(put_in(alloc, held, n, name, file))
 }
