@@ -1,6 +1,6 @@
 -- The desk as it is made and as it is closed.
-use Rattle.std.proofs.Common.{◌≡◌, ◌≢◌, ℕ, zero, suc, ◌+◌, ◌≤◌, ◌==◌, Bool, true, false, ◌||◌, List, [], ◌∷◌, replicate, length, nat_lt, slice_index, Option, Some, None, refl, sym, ap, subst, ◌∙◌, inr, arith}
-use mathlib.Core.Option.{some, some-injective, some-ne-none}
+use Rattle.std.proofs.Common.{◌≡◌, ◌≢◌, ℕ, ◌+◌, ◌≤◌, ◌==◌, Bool, true, false, ◌||◌, List, [], ◌∷◌, replicate, length, nat_lt, slice_index, Option, Some, None, refl, sym, ap, subst, ◌∙◌, inr, arith}
+use mathlib.Core.Option.{some, some-injective}
 use Rattle.std.proofs.lemmas.Bool.Decides.{nat_tests}
 use Rattle.std.proofs.lemmas.List.{append-nil, length-replicate}
 use Rattle.store_desk.proofs.Marks.{none-marked, newly-none}
@@ -58,15 +58,15 @@ module _ {X : Type 0} (l : Lore X) (o : Origin) where
           h,
           final.4 0 (Some h) (ap (λ hs. get_elem? hs 0) eh),
           (let a = (r.home h eh).1 in
-          let sound : IsSound l o h = (r.home h eh).0 in
-          let mine : (n : ℕ) → flag h.tried n ≡ true → has v.mine n ≡ true = λ n e. has-of n v.mine (let f : View → ℕ = λ (u : View). times n u.mine in let some_mine : 1 ≤ total f s.views = a.tried n e in let same : total f s.views ≡ f v = only f refl in omega arith) in record {
-            places = sound.rooms;
-            known = a.known id v at;
-            closed = sound.closed;
-            written = λ tells. written-same l o h.saved h.saved (flag h.tried) (has v.mine) (l.journal h.store) (l.journal h.store) (l.content h.store) (l.content h.store) (sound.written tells) refl refl mine (λ k e. e);
-            seen = a.seen id v at;
-            still = λ calm. a.still (only (λ (u : View). one u.rose) refl ∙ ap one calm);
-          }),
+              let sound : IsSound l o h = (r.home h eh).0 in
+              let mine : (n : ℕ) → flag h.tried n ≡ true → has v.mine n ≡ true = λ n e. has-of n v.mine (let f : View → ℕ = λ (u : View). times n u.mine in let some_mine : 1 ≤ total f s.views = a.tried n e in let same : total f s.views ≡ f v = only f refl in omega arith) in record {
+                places = sound.rooms;
+                known = a.known id v at;
+                closed = sound.closed;
+                written = λ tells. written-same l o h.saved h.saved (flag h.tried) (has v.mine) (l.journal h.store) (l.journal h.store) (l.content h.store) (l.content h.store) (sound.written tells) refl refl mine (λ k e. e);
+                seen = a.seen id v at;
+                still = λ calm. a.still (only (λ (u : View). one u.rose) refl ∙ ap one calm);
+              }),
         )
         | taken ew eh ↦ absurd (let one_turn : total (λ u. one u.turn) s.views ≡ 1 = r.turns ∙ ap (λ (ws : List ℕ). one (slice_index ws 0 == 1)) ew in omega arith)
         | empty ew eh ↦ absurd ((filled l o s id v r at mark).word ew)

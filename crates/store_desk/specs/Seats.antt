@@ -48,7 +48,8 @@ pub record IsFirst (o : Origin) (v : View) : Type 0 where
 -- the store of a closed desk, the saved nodes, and what the last seat knows of them
 pub record IsClosed {X : Type 0} (l : Lore X) (o : Origin) (v : View) (store : X)
     (saved : List Bool) : Type 0 where
-  -- the saved nodes are what the seat knows as saved and more, and each has its dependencies kept or saved
+  -- the saved nodes are what the seat knows as saved and more, and each has its dependencies kept
+  -- or saved
   pub places : length saved ≡ length o.plan.jobs
   pub known : Within v.known saved
   pub closed : (n : ℕ) → flag saved n ≡ true → all_done o.plan o.kept saved n ≡ true

@@ -1,5 +1,5 @@
 -- What a desk is about, what its store and the rooms tell, and which nodes are done.
-use Rattle.std.specs.Prelude.{◌≡◌, ℕ, Bool, true, not, ◌||◌, List, Option, Some, IsTrue}
+use Rattle.std.specs.Prelude.{◌≡◌, ℕ, Bool, not, ◌||◌, List, Option, Some, IsTrue}
 use Rattle.std.specs.List.{list_all}
 use Rattle.std.specs.Option.{option_map}
 use Rattle.outside.specs.Contents.{Contents}
@@ -65,6 +65,7 @@ abbrev pub built_bytes : Runs → PlanView → KeptPackages → ℕ → Option (
 built_bytes runs plan kept n =
     option_map spelling (package_in (status_at (bakes_by runs plan) plan kept n))
 
--- bytes that may be put at a node: where rooms tell, the record of the package that one builder gives
+-- bytes that may be put at a node: where rooms tell, the record of the package that one builder
+-- gives
 abbrev pub IsRight : Bool → Runs → PlanView → KeptPackages → ℕ → List ℕ → Type 0
 IsRight tell runs plan kept n bytes = IsTrue tell → built_bytes runs plan kept n ≡ Some bytes

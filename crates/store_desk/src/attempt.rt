@@ -125,7 +125,7 @@ pub(crate) fn attempt<S: Store, M: Ways>(
     ensures { (o : Origin) → o.plan ≡ plan.now → o.kept ≡ kept.now
         → IsSound (lore S.tells S.content S.journal S.faults M.tells M.runs) o held.old
         → attempts.Attempted (lore S.tells S.content S.journal S.faults M.tells M.runs) o n
-            held.old held.new result }
+        held.old held.new result }
 {
     if let Some(node) = least_open(plan, kept, &held.saved, n) {
         return Keep::Later { node };

@@ -37,10 +37,10 @@ impl<S: Store, M: Ways> Desk<S, M> {
     /// store, where each dependency is in it or kept.
     ///
     /// Later exactly where some dependency is neither kept nor saved at this turn, with the least
-    /// such. Saved where the package is in the store, Fault only where the store's count rose in this
-    /// turn; every other answer leaves that count as it was. NoMemory for want of memory alone, and
-    /// then nothing was put. One turn, whatever is answered. The name of the file is made before it,
-    /// so that the turn itself takes no memory but the store's own.
+    /// such. Saved where the package is in the store, Fault only where the store's count rose in
+    /// this turn; every other answer leaves that count as it was. NoMemory for want of memory
+    /// alone, and then nothing was put. One turn, whatever is answered. The name of the file is
+    /// made before it, so that the turn itself takes no memory but the store's own.
     pub fn keep<R: Wait>(
         &self,
         rt: &R,
@@ -75,8 +75,8 @@ impl<S: Store, M: Ways> Desk<S, M> {
         answer
     }
 
-    /// Two seats of one that has two shares at least. The first keeps all shares but one and what it
-    /// tried. The second has one share, knows what the first knows, and has tried nothing.
+    /// Two seats of one that has two shares at least. The first keeps all shares but one and what
+    /// it tried. The second has one share, knows what the first knows, and has tried nothing.
     ///
     /// Takes no memory.
     pub fn split(&self, seat: DeskSeat<M>) -> (DeskSeat<M>, DeskSeat<M>)
@@ -122,10 +122,10 @@ impl<S: Store, M: Ways> Desk<S, M> {
         }
     }
 
-    /// The store of a desk whose seats were all joined into one, and which packages were saved in it:
-    /// all that the seat knows as saved, each with its dependencies kept or saved. Where the store
-    /// tells, its journal since the desk was made is puts of nodes that the seat tried, dependencies
-    /// first.
+    /// The store of a desk whose seats were all joined into one, and which packages were saved in
+    /// it: all that the seat knows as saved, each with its dependencies kept or saved. Where the
+    /// store tells, its journal since the desk was made is puts of nodes that the seat tried,
+    /// dependencies first.
     ///
     /// Takes no memory.
     pub fn close(self, seat: DeskSeat<M>) -> Desked<S>

@@ -58,8 +58,8 @@ impl<S: Store, M: Ways> Model for Desk<S, M> {
         × (d.kept ≡ d.table.shared.key.kept.value) };
 }
 
-/// A builder's seat at a desk. Contracts see the desk's table and what the seat knows. A seat is not
-/// dropped: `join` puts it into another, and `close` takes the last.
+/// A builder's seat at a desk. Contracts see the desk's table and what the seat knows. A seat is
+/// not dropped: `join` puts it into another, and `close` takes the last.
 pub struct DeskSeat<M: Ways> {
     pub(crate) badge: Badge<View>,
     pub(crate) ways: PhantomData<M>,
