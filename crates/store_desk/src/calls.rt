@@ -59,18 +59,11 @@ impl<S: Store, M: Ways> Desk<S, M> {
         ensures kept { AfterKeep self.now.origin.plan self.now.origin.kept n
             seat.old.view seat.new.view result }
     {
-        let name = name_of(alloc, self.plan.get(), n);
+        let plan = self.plan.get();
+        let name = name_of(alloc, plan, n);
         let badge = mem::replace(&mut seat.badge, Badge::blank());
         let (turn, mut held) = self.take_out(rt, badge);
-        let answer = attempt::<S, M>(
-            alloc,
-            self.plan.get(),
-            self.kept.get(),
-            &mut held,
-            n,
-            &name,
-            file,
-        );
+        let answer = attempt::<S, M>(alloc, plan, self.kept.get(), &mut held, n, &name, file);
         seat.badge = self.put_back(turn, held);
         answer
     }
