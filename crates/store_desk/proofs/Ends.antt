@@ -26,11 +26,11 @@ use Rattle.store_desk.specs.Written.{IsSound}
 -- what stands in a list is found there
 has-of : (n : ℕ) (ns : List ℕ) → 1 ≤ times n ns → has ns n ≡ true
 has-of n [] h = absurd (omega arith)
-has-of n (x ∷ xs) h = by-test (x == n) h
+has-of n (x ∷ xs) h = by-test (x == n) (has-of n xs) h
   where
-    by-test : (b : Bool) → 1 ≤ one b + times n xs → (b || has xs n) ≡ true
-    by-test true g = refl
-    by-test false g = has-of n xs (omega arith)
+    by-test : (b : Bool) → (1 ≤ times n xs → has xs n ≡ true) → 1 ≤ one b + times n xs → (b || has xs n) ≡ true
+    by-test true more g = refl
+    by-test false more g = more (omega arith)
 
 module _ {X : Type 0} (l : Lore X) (o : Origin) where
   pub begins : Ruled {X = X} l o (opening (2 ∷ []) (replicate 1 None) (first_view o))

@@ -29,7 +29,8 @@ fn name_of(alloc: Global, plan: &Plan, n: u32) -> Result<Text, NoMemory>
     requires { n < length plan.now.jobs }
     ensures { IfOk result (λ name. name ≡ file_of plan.now n) }
 {
-    file_name(alloc, &plan.jobs.as_slice()[n as usize].name)
+    let job = &plan.jobs.as_slice()[n as usize];
+    file_name(alloc, &job.name)
 }
 
 impl<S: Store, M: Ways> Desk<S, M> {
