@@ -155,7 +155,7 @@ module _ {X : Type 0} (l : Lore X) (o : Origin) where
         later = f.cause.later;
         saved = more;
         tried = inr f.tried;
-        answers = (subst (λ (xs : List Bool). flag xs n ≡ true) (sym f.ok) (set-here before.saved n (omega arith)), now-none n bytes before now (Ok u) f s more, f.cause.kept (λ e. cc));
+        answers = (subst (λ (xs : List Bool). flag xs n ≡ true) (sym f.ok) (set-here before.saved n (omega arith)), now-none n bytes before now (Ok u) f s more, f.cause.kept refl);
       }
   put-attempted n bytes before now (Err Fault) f s =
       let more : Within before.saved now.saved = same-more n bytes before now (Err Fault) f s f.err in
@@ -165,7 +165,7 @@ module _ {X : Type 0} (l : Lore X) (o : Origin) where
         later = f.cause.later;
         saved = more;
         tried = inr f.tried;
-        answers = (f.cause.failed refl, now-none n bytes before now (Err Fault) f s more);
+        answers = (f.cause.rose refl, now-none n bytes before now (Err Fault) f s more);
       }
   put-attempted n bytes before now (Err NoMemory) f s =
       let more : Within before.saved now.saved = same-more n bytes before now (Err NoMemory) f s f.err in
@@ -175,7 +175,7 @@ module _ {X : Type 0} (l : Lore X) (o : Origin) where
         later = f.cause.later;
         saved = more;
         tried = inr f.tried;
-        answers = (now-none n bytes before now (Err NoMemory) f s more, f.cause.kept (λ e. cc));
+        answers = (now-none n bytes before now (Err NoMemory) f s more, f.cause.kept refl);
       }
 
 -- the same over a plan and what is kept that are those of the desk
