@@ -1,9 +1,10 @@
 -- A port without files and commands is a job.
-use Rattle.std.proofs.Common.{◌≡◌, ℕ, List, [], codes, refl, sym, subst, None}
+use Rattle.std.proofs.Common.{◌≡◌, ℕ, List, [], codes, refl, sym, subst, Some}
+use Rattle.std.specs.Prelude.{IsTrue}
 use Rattle.std.specs.List.Sorted.{IsStrictlySortedBy}
 use Rattle.std.specs.Cmp.Lexicographic.{slice_cmp}
 use Rattle.std.specs.Ordering.{nat_cmp}
-use Rattle.bulk_base.specs.Names.{IsPackageName, IsOrigin}
+use Rattle.bulk_base.specs.Names.{IsPackageName, IsOrigin, is_flavor}
 use Rattle.bulk_base.specs.declared.file.FileItem.{FileItem}
 use Rattle.bulk_base.specs.declared.file.Switch.{Switch}
 use Rattle.bulk_model.specs.declared.depend.Depend.{Depend}
@@ -26,12 +27,12 @@ no_files most = record { order = none_ascend; apart = refl; short = refl }
 an_origin : IsOrigin (codes "a/x")
 an_origin = record { category = codes "a"; port = codes "x"; category_form = refl; port_form = refl; spelled = refl }
 
-pub is_job : (name origin : List ℕ) (options : List Switch) (depends : List Depend) (steps : Steps) (files : List FileItem) → IsPackageName name → origin ≡ codes "a/x" → options ≡ [] → depends ≡ [] → files ≡ []
-    → IsJob (record { name = name; origin = origin; flavor = None; options = options; depends = depends; steps = steps; files = files })
-is_job name origin options depends steps files form o p d f = record {
+pub is_job : (name origin flavor : List ℕ) (options : List Switch) (depends : List Depend) (steps : Steps) (files : List FileItem) → IsPackageName name → IsTrue (is_flavor flavor) → origin ≡ codes "a/x" → options ≡ [] → depends ≡ [] → files ≡ []
+    → IsJob (record { name = name; origin = origin; flavor = Some flavor; options = options; depends = depends; steps = steps; files = files })
+is_job name origin flavor options depends steps files form its o p d f = record {
   name = form;
   origin = subst IsOrigin (sym o) an_origin;
-  flavor = tt;
+  flavor = its;
   options = subst IsOptionList (sym p) no_options;
   depends = subst IsDependList (sym d) no_depends;
   files = subst (IsFileList 1019) (sym f) (no_files 1019);

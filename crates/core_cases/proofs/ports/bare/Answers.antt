@@ -7,4 +7,4 @@ pub of-requires : goal.of-requires
 of-requires c = is_text-plain (codes "a/x") refl
 
 pub invariant_of-result : goal.invariant_of-result
-invariant_of-result c = is_job c.args.name c.in_ok-origin.origin c.new.result c.new-2.result _ c.new-8.result c.requires c.in_ok-origin.ensures c.new.ensures c.new-2.ensures c.new-8.ensures
+invariant_of-result c = is_job c.args.name c.in_ok-origin.origin c.args.flavor c.new.result c.new-2.result _ c.new-8.result c.requires.name c.requires.flavor c.in_ok-origin.ensures c.new.ensures c.new-2.ensures c.new-8.ensures
