@@ -12,6 +12,7 @@ check_made_trees() {
   local cases=$top/crates/list_cases case wanted count=0
   command -v python3 >/dev/null || skip 'there is no python3'
   : >../expected
+  [ "$("$tests/make_tree" 0)" = 167951807 ] || miss 'the first draw of 0 is another'
   while IFS= read -r case <&3 && IFS= read -r wanted <&4; do
     [[ $case == tree\|* || $case == file\|* ]] && [ "$wanted" != 'no case' ] || continue
     [ "$(made "$case")" = "$wanted" ] || miss "$case expects another answer"
