@@ -11,8 +11,8 @@ use Rattle.outside.specs.Contents.{IsListing}
 use Rattle.bulk_base.proofs.Members.{all_passes, contains_map}
 use Rattle.dist_files.specs.declared.dist.Dist.{Dist}
 use Rattle.job_files.specs.FileForms.{AddsAtMost, files_of}
-use Rattle.job_files.specs.FolderFiles.{rest_of}
-use Rattle.job_files.proofs.PathLists.{IsPathList, IsPathList-rest, left_out}
+use Rattle.path_laws.specs.Laws.{IsPathList, rest_of}
+use Rattle.path_laws.proofs.PathLists.{IsPathList-rest, left_out}
 
 abbrev pub IsSoFar : List ℕ → List FileItem → List (List ℕ) → Type 0
 IsSoFar w files paths = IsPathList (paths_of files ++ map (rest_of w) paths)

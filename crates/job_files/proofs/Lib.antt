@@ -1,4 +1,3 @@
-pub mod PathLists
 pub mod Turning
 pub mod FileLists
 pub mod Entries

@@ -27,7 +27,7 @@ use Rattle.bulk_model.specs.Facts.{IsFileList, paths_of}
 use Rattle.dist_files.specs.declared.dist.Dist.{Dist}
 use Rattle.job_files.specs.Distfiles.{job_path, is_kept_for_dist, comes_before_dist, together}
 use Rattle.job_files.specs.FileForms.{AreEntries, IsFreeOfDist, files_of}
-use Rattle.job_files.proofs.PathLists.{is_below-joined_both, order-front}
+use Rattle.path_laws.proofs.PathLists.{is_below-joined_both, order-front}
 
 -- ---- paths before and behind those below a folder, in byte order
 

@@ -9,7 +9,8 @@ use Rattle.job_files.specs.declared.fault.PlanError.{PlanError}
 use Rattle.job_files.specs.declared.fault.PlanError.TheVariants.{BadPort}
 use Rattle.job_files.specs.declared.gathered.Gathered.{Gathered}
 use Rattle.job_files.specs.Gathered.{nothing_yet}
-use Rattle.job_files.specs.FolderFiles.{rest_of, with_file}
+use Rattle.path_laws.specs.Laws.{rest_of}
+use Rattle.job_files.specs.FolderFiles.{with_file}
 use Rattle.job_files.specs.Turns.{in_turn}
 
 abbrev pub base_folder : List ℕ

@@ -1,5 +1,5 @@
 -- The files below a folder of the tree, each with the folder taken off its path.
-use Rattle.std.specs.Prelude.{ℕ, ◌+◌, nat_le, List, length, drop, if◌then◌else◌}
+use Rattle.std.specs.Prelude.{ℕ, nat_le, List, length, if◌then◌else◌}
 use Rattle.std.specs.Option.{option_map_or}
 use Rattle.std.specs.declared.result.Result.{Result}
 use Rattle.std.specs.declared.result.Result.TheVariants.{Ok, Err}
@@ -7,14 +7,11 @@ use Rattle.std.specs.FinMap.{get}
 use Rattle.bulk_model.specs.declared.which.Which.TheVariants.{FileBytes}
 use Rattle.bulk_model.specs.Limits.{most}
 use Rattle.outside.specs.Contents.{Contents, files_below}
+use Rattle.path_laws.specs.Laws.{rest_of}
 use Rattle.job_files.specs.declared.fault.PlanError.{PlanError}
 use Rattle.job_files.specs.declared.gathered.Gathered.{Gathered}
 use Rattle.job_files.specs.Gathered.{nothing_yet, with_one, counted, too_long}
 use Rattle.job_files.specs.Turns.{in_turn}
-
--- what follows a folder and its slash
-abbrev pub rest_of : List ℕ → List ℕ → List ℕ
-rest_of folder path = drop (length folder + 1) path
 
 -- a file's bytes are put to those gathered: its own length is looked at before the sum
 abbrev pub with_bytes : Gathered → List ℕ → List ℕ → Result Gathered PlanError

@@ -7,7 +7,7 @@ ghost use Rattle.bulk_model.specs.declared.which.Which.TheVariants.{JobBytes};
 ghost use Rattle.job_files.specs.Faults.{IsCaused};
 ghost use Rattle.job_files.specs.BaseFiles as bases;
 ghost use Rattle.job_files.specs.FileForms.{AddsAtMost};
-ghost use Rattle.job_files.specs.FolderFiles.{rest_of};
+ghost use Rattle.path_laws.specs.Laws.{rest_of};
 
 use crate::fault::PlanError;
 use crate::folder_files::{path_in_folder, read_file};

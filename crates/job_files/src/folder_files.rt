@@ -4,6 +4,7 @@ ghost use Rattle.bulk_base.specs.Path.{is_below};
 ghost use Rattle.bulk_model.specs.Facts.{IsFileList};
 ghost use Rattle.bulk_model.specs.Limits.{most};
 ghost use Rattle.bulk_model.specs.declared.which.Which.TheVariants.{JobBytes};
+ghost use Rattle.path_laws.specs.Laws.{rest_of};
 ghost use Rattle.job_files.specs.Faults.{IsCaused};
 ghost use Rattle.job_files.specs.FolderFiles as folders;
 ghost use Rattle.job_files.specs.FileForms.{AddsAtMost};
@@ -19,7 +20,7 @@ use std::alloc::Global;
 pub(crate) fn path_in_folder(alloc: Global, folder: &Path, path: &Path) -> Result<Path, NoMemory>
     requires long { 4 ≤ length folder.now }
     requires below { IsTrue (is_below folder.now path.now) }
-    ensures path { IfOk result (λ rest. rest ≡ folders.rest_of folder.now path.now) }
+    ensures path { IfOk result (λ rest. rest ≡ rest_of folder.now path.now) }
     ensures short { IfOk result (λ rest. length rest ≤ 1019) }
 {
     prove!(path.bytes().len() <= 1024);
@@ -37,9 +38,9 @@ fn add_bytes(
     requires long { 4 ≤ length folder.now }
     requires below { IsTrue (is_below folder.now path.now) }
     requires counted { gathered.bytes ≤ most JobBytes }
-    ensures ok { IfOk result (λ more. folders.with_bytes gathered (folders.rest_of folder.now path.now) bytes.items ≡ Ok more) }
-    ensures refused { IfErr result (λ e. e ≢ PlanError.NoMemory → folders.with_bytes gathered (folders.rest_of folder.now path.now) bytes.items ≡ Err e) }
-    ensures adds { IfOk result (λ more. AddsAtMost (folders.rest_of folder.now path.now) gathered.files more.files) }
+    ensures ok { IfOk result (λ more. folders.with_bytes gathered (rest_of folder.now path.now) bytes.items ≡ Ok more) }
+    ensures refused { IfErr result (λ e. e ≢ PlanError.NoMemory → folders.with_bytes gathered (rest_of folder.now path.now) bytes.items ≡ Err e) }
+    ensures adds { IfOk result (λ more. AddsAtMost (rest_of folder.now path.now) gathered.files more.files) }
     ensures few { IfOk result (λ more. more.bytes ≤ most JobBytes) }
     ensures quiet { IfErr result (λ e. e ≢ PlanError.TreeFault) }
 {
@@ -65,7 +66,7 @@ pub(crate) fn read_file<T: Tree>(
     ensures ok { IsTrue T.tells → IfOk result (λ more. folders.with_file folder.now (T.content tree.old) gathered path.now ≡ Ok more) }
     ensures refused { IsTrue T.tells → IfErr result (λ e. e ≢ PlanError.NoMemory → e ≢ PlanError.TreeFault
         → folders.with_file folder.now (T.content tree.old) gathered path.now ≡ Err e) }
-    ensures adds { IfOk result (λ more. AddsAtMost (folders.rest_of folder.now path.now) gathered.files more.files) }
+    ensures adds { IfOk result (λ more. AddsAtMost (rest_of folder.now path.now) gathered.files more.files) }
     ensures few { IfOk result (λ more. more.bytes ≤ most JobBytes) }
     ensures same { T.content tree.new ≡ T.content tree.old }
     ensures cause { IsCaused (T.faults tree.old) (T.faults tree.new) result }

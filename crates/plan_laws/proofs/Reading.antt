@@ -27,7 +27,8 @@ use Rattle.tree_index.specs.Places.{files_folder, distinfo_file}
 use Rattle.tree_index.specs.declared.node.NodeInfo.{NodeInfo}
 use Rattle.job_files.specs.Distfiles.{entries_in, refuse_kept, distfiles, with_dist, with_dist_bytes, read_dist, tree_path, job_path, together, is_kept_for_dist}
 use Rattle.job_files.specs.Faults.{dist_fault}
-use Rattle.job_files.specs.FolderFiles.{with_file, with_bytes, folder_files, rest_of}
+use Rattle.path_laws.specs.Laws.{rest_of}
+use Rattle.job_files.specs.FolderFiles.{with_file, with_bytes, folder_files}
 use Rattle.job_files.specs.Gathered.{counted, with_one, file, nothing_yet, too_long}
 use Rattle.job_files.specs.NodeFiles.{node_files, by_list, list_beside, with_listed, with_its_distfiles, with_distfiles}
 use Rattle.job_files.specs.Turns.{in_turn}

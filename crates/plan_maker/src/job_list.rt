@@ -3,9 +3,9 @@ use bulk_model::Jobs;
 
 /// The jobs that were made so far, and how many bytes of files they have.
 #[derive(Drop)]
-pub(crate) struct JobList {
+pub struct JobList {
     /// One job for each node so far.
-    pub(crate) jobs: Jobs,
+    pub jobs: Jobs,
     /// How many bytes were counted.
-    pub(crate) bytes: u64,
+    pub bytes: u64,
 }

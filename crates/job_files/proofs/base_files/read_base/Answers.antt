@@ -6,7 +6,7 @@ use Rattle.bulk_model.specs.Facts.{paths_of}
 use Rattle.bulk_model.specs.PlanFacts.{is_reserved}
 use Rattle.job_files.specs.BaseFiles.{base_folder, with_base_file}
 use Rattle.job_files.specs.FileForms.{AddsAtMost}
-use Rattle.job_files.specs.FolderFiles.{rest_of}
+use Rattle.path_laws.specs.Laws.{rest_of}
 use Rattle.job_files.specs.Gathered.{nothing_yet}
 use Rattle.job_files.specs.Turns.{in_turn}
 use Rattle.job_files.proofs.FileLists.{so_far_begin, so_far_next, tested_next, short_path}

@@ -1,7 +1,8 @@
 use Rattle.std.proofs.Common.{◌≡◌, ◌∙◌, ◌<◌, ap, refl, sym, length, Ok, arith}
 use Rattle.std.specs.Prelude.{nat_le}
 use Rattle.outside.specs.Contents.{Contents}
-use Rattle.job_files.specs.FolderFiles.{with_file, rest_of}
+use Rattle.path_laws.specs.Laws.{rest_of}
+use Rattle.job_files.specs.FolderFiles.{with_file}
 use Rattle.job_files.specs.Gathered.{nothing_yet}
 use Rattle.job_files.specs.Turns.{in_turn}
 use Rattle.bulk_model.specs.Facts.{paths_of}
