@@ -3,3 +3,4 @@ pub mod Words
 pub mod Settings
 pub mod Steps
 pub mod Planned
+pub mod Answering

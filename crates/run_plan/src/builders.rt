@@ -1,9 +1,10 @@
 // The number of builders of a run.
-ghost use Rattle.std.specs.Prelude.{◌≡◌, false};
+ghost use Rattle.std.specs.Prelude.{◌≡◌, false, Ok, IfOk};
 ghost use Rattle.std.specs.Option.{option_copied};
 ghost use Rattle.outside.specs.Faults.{err_is};
 ghost use Rattle.run_answer.specs.Kind.{blames_tree};
 ghost use Rattle.run_answer.specs.Steps.{IsOfReading};
+ghost use Rattle.run_plan.specs.Answering.{is_usage, lacks_rooms, may_lack};
 ghost use Rattle.run_plan.specs.Settings as settings;
 
 use run_answer::Answer;
@@ -22,7 +23,11 @@ pub fn asked_builders(words: Option<u64>, conf: Option<u64>) -> u64
 /// the rooms are asked. Takes no memory.
 pub fn check_builders(rooms: Option<u64>, dry_run: bool, asked: u64) -> Result<u64, Answer>
     ensures told { result ≡ settings.builders_step rooms dry_run asked }
+    ensures enough { IfOk result (λ builders. (builders ≡ asked)
+        × (settings.builders_step rooms dry_run builders ≡ Ok builders)) }
     ensures reading { IsOfReading result }
+    ensures usage { err_is is_usage result ≡ false }
+    ensures rooms { may_lack rooms dry_run ≡ false → err_is lacks_rooms result ≡ false }
     ensures quiet { err_is blames_tree result ≡ false }
 {
     match rooms {

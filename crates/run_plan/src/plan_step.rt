@@ -1,10 +1,11 @@
 // The plan of the nodes that a run wants.
-ghost use Rattle.std.specs.Prelude.{◌≡◌, IsTrue, IfOk};
+ghost use Rattle.std.specs.Prelude.{◌≡◌, false, IsTrue, IfOk};
 ghost use Rattle.outside.specs.Faults.{IsCaused, err_is};
 ghost use Rattle.plan_maker.specs.Nodes.{AreNodes};
 ghost use Rattle.plan_maker.specs.Over.{IsOver};
 ghost use Rattle.run_answer.specs.Kind.{blames_tree};
 ghost use Rattle.run_answer.specs.Steps.{IsOfReading, Tells};
+ghost use Rattle.run_plan.specs.Answering.{is_of_command};
 ghost use Rattle.run_plan.specs.Steps as steps;
 
 use crate::told::plan_answer;
@@ -34,6 +35,7 @@ pub fn make_plan<T: Tree>(
         (steps.plan_step index.now wanted.now boost.now (T.content tree.old)) result }
     ensures over { IfOk result (IsOver index.now wanted.now) }
     ensures reading { IsOfReading result }
+    ensures files { err_is is_of_command result ≡ false }
     ensures same { T.content tree.new ≡ T.content tree.old }
     ensures cause { IsCaused (T.faults tree.old) (T.faults tree.new) (err_is blames_tree result) }
 {

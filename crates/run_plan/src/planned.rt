@@ -1,10 +1,13 @@
 // What a run plans.
-ghost use Rattle.std.specs.Prelude.{◌≡◌, IsTrue, IfOk};
+ghost use Rattle.std.specs.Prelude.{◌≡◌, false, Ok, IsTrue, IfOk};
 ghost use Rattle.outside.specs.Faults.{IsCaused, err_is};
 ghost use Rattle.plan_maker.specs.Over.{IsOver};
 ghost use Rattle.run_answer.specs.Kind.{blames_tree};
 ghost use Rattle.run_answer.specs.Steps.{IsOfReading, Tells};
+ghost use Rattle.run_plan.specs.Answering.{AnswersWords, IsAskedBy, counts_rooms, may_lack, is_of_command, is_usage, lacks_rooms};
 ghost use Rattle.run_plan.specs.Planned as specs;
+ghost use Rattle.run_plan.specs.Settings.{builders_step};
+ghost use Rattle.run_plan.specs.Words.{words_step};
 
 use crate::builders::{asked_builders, check_builders};
 use crate::plan_step::make_plan;
@@ -51,7 +54,10 @@ fn plan_settled<T: Tree>(
     ensures told { IsTrue T.tells → Tells
         (specs.planned_by words.now settings.now builders (T.content tree.old)) result }
     ensures over { IfOk result (λ planned. IsOver planned.index planned.wanted planned.plan) }
+    ensures asked { IfOk result (λ planned. (planned.clean ≡ words.now.clean)
+        × (planned.dry_run ≡ words.now.dry_run) × (planned.builders ≡ builders)) }
     ensures reading { IsOfReading result }
+    ensures files { err_is is_of_command result ≡ false }
     ensures same { T.content tree.new ≡ T.content tree.old }
     ensures cause { IsCaused (T.faults tree.old) (T.faults tree.new) (err_is blames_tree result) }
 {
@@ -81,7 +87,13 @@ fn plan_words<T: Tree>(
     ensures told { IsTrue T.tells → Tells
         (specs.planned_of words.now (T.content tree.old) rooms) result }
     ensures over { IfOk result (λ planned. IsOver planned.index planned.wanted planned.plan) }
+    ensures asked { IfOk result (λ planned. (planned.clean ≡ words.now.clean)
+        × (planned.dry_run ≡ words.now.dry_run)
+        × (builders_step rooms planned.dry_run planned.builders ≡ Ok planned.builders)) }
     ensures reading { IsOfReading result }
+    ensures usage { err_is is_usage result ≡ false }
+    ensures rooms { may_lack rooms words.now.dry_run ≡ false
+        → err_is lacks_rooms result ≡ false }
     ensures same { T.content tree.new ≡ T.content tree.old }
     ensures cause { IsCaused (T.faults tree.old) (T.faults tree.new) (err_is blames_tree result) }
 {
@@ -116,8 +128,13 @@ pub fn plan_run<T: Tree>(
     // the answer, over a tree that tells
     ensures told { IsTrue T.tells → Tells
         (specs.planned words.now (T.content tree.old) rooms) result }
-    // over every tree: the plan is over the index, and no answer of another command comes
+    // over every tree: the plan is over the index, and it is for what the words ask
     ensures over { IfOk result (λ planned. IsOver planned.index planned.wanted planned.plan) }
+    ensures asked { IfOk result (IsAskedBy words.now rooms) }
+    // over every tree: what words and rooms alone decide, and no answer of another command
+    ensures words { AnswersWords (words_step words.now) result }
+    ensures rooms { counts_rooms rooms (words_step words.now) ≡ false
+        → err_is lacks_rooms result ≡ false }
     ensures reading { IsOfReading result }
     // the tree
     ensures same { T.content tree.new ≡ T.content tree.old }

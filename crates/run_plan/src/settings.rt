@@ -6,6 +6,7 @@ ghost use Rattle.tree_index.specs.Faults.{refused_as};
 ghost use Rattle.outside.specs.Faults.{IsCaused, err_is};
 ghost use Rattle.run_answer.specs.Kind.{blames_tree};
 ghost use Rattle.run_answer.specs.Steps.{IsOfReading, Tells};
+ghost use Rattle.run_plan.specs.Answering.{is_of_command};
 ghost use Rattle.run_plan.specs.Settings as settings;
 ghost use Rattle.run_plan.specs.Told as told;
 
@@ -34,6 +35,7 @@ fn conf_in(alloc: Global, path: &Path, bytes: &[u8]) -> Result<Conf, Answer>
     ensures told { Tells
         (refused_as (told.conf_answer settings.conf_path) (conf_of bytes.now)) result }
     ensures reading { IsOfReading result }
+    ensures files { err_is is_of_command result ≡ false }
     ensures quiet { err_is blames_tree result ≡ false }
 {
     match read_conf(alloc, bytes) {
@@ -48,6 +50,7 @@ fn make_in(alloc: Global, path: &Path, bytes: &[u8]) -> Result<MakeConf, Answer>
     ensures told { Tells
         (refused_as (told.conf_answer settings.make_path) (make_of bytes.now)) result }
     ensures reading { IsOfReading result }
+    ensures files { err_is is_of_command result ≡ false }
     ensures quiet { err_is blames_tree result ≡ false }
 {
     match read_make(alloc, bytes) {
@@ -60,6 +63,7 @@ fn make_in(alloc: Global, path: &Path, bytes: &[u8]) -> Result<MakeConf, Answer>
 fn conf_at<T: Tree>(alloc: Global, tree: &mut T) -> Result<Conf, Answer>
     ensures told { IsTrue T.tells → Tells (settings.conf_at (T.content tree.old)) result }
     ensures reading { IsOfReading result }
+    ensures files { err_is is_of_command result ≡ false }
     ensures same { T.content tree.new ≡ T.content tree.old }
     ensures cause { IsCaused (T.faults tree.old) (T.faults tree.new) (err_is blames_tree result) }
 {
@@ -75,6 +79,7 @@ fn conf_at<T: Tree>(alloc: Global, tree: &mut T) -> Result<Conf, Answer>
 fn make_at<T: Tree>(alloc: Global, tree: &mut T) -> Result<MakeConf, Answer>
     ensures told { IsTrue T.tells → Tells (settings.make_at (T.content tree.old)) result }
     ensures reading { IsOfReading result }
+    ensures files { err_is is_of_command result ≡ false }
     ensures same { T.content tree.new ≡ T.content tree.old }
     ensures cause { IsCaused (T.faults tree.old) (T.faults tree.new) (err_is blames_tree result) }
 {
@@ -97,6 +102,7 @@ fn make_at<T: Tree>(alloc: Global, tree: &mut T) -> Result<MakeConf, Answer>
 pub fn read_settings<T: Tree>(alloc: Global, tree: &mut T) -> Result<Settings, Answer>
     ensures told { IsTrue T.tells → Tells (settings.settings_step (T.content tree.old)) result }
     ensures reading { IsOfReading result }
+    ensures files { err_is is_of_command result ≡ false }
     ensures same { T.content tree.new ≡ T.content tree.old }
     ensures cause { IsCaused (T.faults tree.old) (T.faults tree.new) (err_is blames_tree result) }
 {

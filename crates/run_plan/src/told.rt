@@ -1,6 +1,7 @@
 // What the refusals of the readers below are told as.
 ghost use Rattle.std.specs.Prelude.{◌≡◌, true, false};
 ghost use Rattle.run_answer.specs.Kind.{blames_tree, is_of_reading, is_refusal};
+ghost use Rattle.run_plan.specs.Answering.{is_of_command};
 ghost use Rattle.run_plan.specs.Told as told;
 
 use bulk_base::{Path, Text};
@@ -16,6 +17,7 @@ pub(crate) fn conf_answer(alloc: Global, path: &Path, fault: ConfError) -> Answe
     ensures told { is_refusal result ≡ true → result ≡ told.conf_answer path.now fault }
     ensures reading { is_of_reading result ≡ true }
     ensures quiet { blames_tree result ≡ false }
+    ensures files { is_of_command result ≡ false }
 {
     match fault {
         ConfError::BadLine { line, kind } => match path.text().copy(alloc) {
@@ -28,7 +30,8 @@ pub(crate) fn conf_answer(alloc: Global, path: &Path, fault: ConfError) -> Answe
 
 /// A refusal of the index.
 pub(crate) fn index_answer(fault: IndexError) -> Answer
-    ensures { result ≡ told.index_answer fault }
+    ensures told { result ≡ told.index_answer fault }
+    ensures files { is_of_command result ≡ false }
 {
     match fault {
         IndexError::TreeFault => Answer::TreeFault,
@@ -44,6 +47,7 @@ fn list_answer(alloc: Global, path: &Text, line: u32) -> Answer
     ensures told { is_refusal result ≡ true → result ≡ Answer.BadList path.now line }
     ensures reading { is_of_reading result ≡ true }
     ensures quiet { blames_tree result ≡ false }
+    ensures files { is_of_command result ≡ false }
 {
     match path.copy(alloc) {
         Ok(path) => Answer::BadList { path, line },
@@ -56,6 +60,7 @@ pub(crate) fn wanted_answer(alloc: Global, path: &Text, fault: WantedError) -> A
     ensures told { is_refusal result ≡ true → result ≡ told.wanted_answer path.now fault }
     ensures reading { is_of_reading result ≡ true }
     ensures quiet { blames_tree result ≡ false }
+    ensures files { is_of_command result ≡ false }
 {
     match fault {
         WantedError::BadList { line } => list_answer(alloc, path, line),
@@ -69,7 +74,8 @@ pub(crate) fn wanted_answer(alloc: Global, path: &Text, fault: WantedError) -> A
 
 /// A refusal of the plan.
 pub(crate) fn plan_answer(fault: PlanError) -> Answer
-    ensures { result ≡ told.plan_answer fault }
+    ensures told { result ≡ told.plan_answer fault }
+    ensures files { is_of_command result ≡ false }
 {
     match fault {
         PlanError::NoDepend { port, origin } => Answer::NoDepend { port, origin },

@@ -3,6 +3,7 @@ ghost use Rattle.std.specs.Prelude.{◌≡◌, false, IsTrue};
 ghost use Rattle.outside.specs.Faults.{IsCaused, err_is};
 ghost use Rattle.run_answer.specs.Kind.{blames_tree};
 ghost use Rattle.run_answer.specs.Steps.{IsOfReading, Tells};
+ghost use Rattle.run_plan.specs.Answering.{is_of_command};
 ghost use Rattle.run_plan.specs.Steps as steps;
 
 use crate::told::index_answer;
@@ -26,6 +27,7 @@ pub fn index_tree<T: Tree>(
     ensures told { IsTrue T.tells → Tells
         (steps.tree_step make.now try_broken (T.content tree.old)) result }
     ensures reading { IsOfReading result }
+    ensures files { err_is is_of_command result ≡ false }
     ensures same { T.content tree.new ≡ T.content tree.old }
     ensures cause { IsCaused (T.faults tree.old) (T.faults tree.new) (err_is blames_tree result) }
 {

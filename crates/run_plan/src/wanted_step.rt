@@ -11,6 +11,7 @@ ghost use Rattle.outside.specs.Faults.{IsCaused, err_is};
 ghost use Rattle.port_vars.specs.Assignment.{mapped};
 ghost use Rattle.run_answer.specs.Kind.{blames_tree, is_of_reading, is_refusal};
 ghost use Rattle.run_answer.specs.Steps.{IsOfReading, Tells};
+ghost use Rattle.run_plan.specs.Answering.{is_of_command};
 ghost use Rattle.run_plan.specs.Steps as steps;
 
 use crate::told::wanted_answer;
@@ -27,6 +28,7 @@ use tree_index::Index;
 fn no_list(alloc: Global, word: &Text) -> Answer
     ensures told { is_refusal result ≡ true → result ≡ Answer.NoList word.now }
     ensures reading { is_of_reading result ≡ true }
+    ensures files { is_of_command result ≡ false }
     ensures quiet { blames_tree result ≡ false }
 {
     match word.copy(alloc) {
@@ -40,6 +42,7 @@ fn list_with(bytes: Vec<u8>) -> Result<Vec<u8>, Answer>
     ensures told { Tells (steps.list_with bytes.items) (mapped (λ list. list.items) result) }
     ensures few { IfOk result (λ list. length list.items ≤ most FileBytes) }
     ensures reading { IsOfReading result }
+    ensures files { err_is is_of_command result ≡ false }
     ensures quiet { err_is blames_tree result ≡ false }
 {
     if bytes.len() as u64 > Which::FileBytes.most() {
@@ -64,6 +67,7 @@ fn list_in<T: Tree>(
         (λ list. list.items) result) }
     ensures few { IfOk result (λ list. length list.items ≤ most FileBytes) }
     ensures reading { IsOfReading result }
+    ensures files { err_is is_of_command result ≡ false }
     ensures same { T.content tree.new ≡ T.content tree.old }
     ensures cause { IsCaused (T.faults tree.old) (T.faults tree.new) (err_is blames_tree result) }
 {
@@ -80,6 +84,7 @@ fn list_at<T: Tree>(alloc: Global, tree: &mut T, word: &Text) -> Result<Vec<u8>,
         (λ list. list.items) result) }
     ensures few { IfOk result (λ list. length list.items ≤ most FileBytes) }
     ensures reading { IsOfReading result }
+    ensures files { err_is is_of_command result ≡ false }
     ensures same { T.content tree.new ≡ T.content tree.old }
     ensures cause { IsCaused (T.faults tree.old) (T.faults tree.new) (err_is blames_tree result) }
 {
@@ -107,6 +112,7 @@ fn wanted_with(
         (λ n. n < length index.now.nodes) wanted.nodes) }
     ensures order { IfOk result (λ wanted. IsStrictlySortedBy nat_cmp wanted.nodes) }
     ensures reading { IsOfReading result }
+    ensures files { err_is is_of_command result ≡ false }
     ensures quiet { err_is blames_tree result ≡ false }
 {
     let words = ports.origins.as_slice();
@@ -139,6 +145,7 @@ pub fn find_wanted<T: Tree>(
         (λ n. n < length index.now.nodes) wanted.nodes) }
     ensures order { IfOk result (λ wanted. IsStrictlySortedBy nat_cmp wanted.nodes) }
     ensures reading { IsOfReading result }
+    ensures files { err_is is_of_command result ≡ false }
     ensures same { T.content tree.new ≡ T.content tree.old }
     ensures cause { IsCaused (T.faults tree.old) (T.faults tree.new) (err_is blames_tree result) }
 {

@@ -3,6 +3,7 @@ ghost use Rattle.run_answer.specs.Kind.{blames_tree};
 ghost use Rattle.std.specs.Prelude.{◌≡◌, false};
 ghost use Rattle.outside.specs.Faults.{err_is};
 ghost use Rattle.run_answer.specs.Steps.{IsOfReading, Tells};
+ghost use Rattle.run_plan.specs.Answering.{AnswersWords, lacks_rooms};
 ghost use Rattle.run_plan.specs.Words.{words_step};
 
 use bulk_base::Text;
@@ -17,6 +18,8 @@ use std::alloc::Global;
 /// NoMemory for want of memory alone. The cost is that of `read_words` of command_words.
 pub fn read_bulk(alloc: Global, words: &[Text]) -> Result<BulkWords, Answer>
     ensures told { Tells (words_step words.now) result }
+    ensures words { AnswersWords (words_step words.now) result }
+    ensures rooms { err_is lacks_rooms result ≡ false }
     ensures reading { IsOfReading result }
     ensures quiet { err_is blames_tree result ≡ false }
 {
