@@ -3,3 +3,4 @@ pub mod Telling
 pub mod Entering
 pub mod Ordering
 pub mod Assembling
+pub mod Statuses

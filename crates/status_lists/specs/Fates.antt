@@ -1,6 +1,6 @@
 -- What the lists tell of a node (docs/FORMATS.md, "What is printed").
 use Rattle.std.specs.Prelude.{◌≡◌, ◌<◌, ℕ, Bool, true, false, not, List, length, map, slice_index_or, Option, unwrap_or, if◌then◌else◌}
-use Rattle.std.specs.List.{All}
+use Rattle.std.specs.List.{All, list_any}
 use Rattle.std.specs.Option.{option_map, option_map_or}
 use Rattle.bulk_base.specs.Least.{least_passing}
 use Rattle.bulk_model.specs.declared.plan.Kept.{Kept as KeptPackages}
@@ -36,6 +36,18 @@ has_package Built = true
 has_package (Failed phase code) = false
 has_package Ignored = false
 has_package (Skipped cause) = false
+
+-- a run with such a node did not come to all that was asked
+abbrev pub is_set_back : Fate → Bool
+is_set_back Kept = false
+is_set_back Built = false
+is_set_back (Failed phase code) = true
+is_set_back Ignored = false
+is_set_back (Skipped cause) = true
+
+-- the exit status by what is told of each node
+abbrev pub exit_of : List Fate → ℕ
+exit_of fates = if list_any is_set_back fates then 1 else 0
 
 -- whom those blame who wait for a node with this fate
 abbrev pub blamed_by : ℕ → Fate → ℕ

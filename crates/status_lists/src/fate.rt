@@ -1,7 +1,7 @@
 // What the lists tell of a node.
 ghost use Rattle.std.specs.Prelude.{◌≡◌};
 ghost use Rattle.status_lists.specs.Entries.{is_in};
-ghost use Rattle.status_lists.specs.Fates.{blamed_by, has_package};
+ghost use Rattle.status_lists.specs.Fates.{blamed_by, has_package, is_set_back};
 
 use bulk_model::Phase;
 
@@ -48,6 +48,13 @@ impl Fate {
         ensures { result ≡ has_package self }
     {
         matches!(self, Fate::Kept | Fate::Built)
+    }
+
+    /// Whether it was not built, though nothing ignores it.
+    pub(crate) fn is_set_back(self) -> bool
+        ensures { result ≡ is_set_back self }
+    {
+        matches!(self, Fate::Failed { .. } | Fate::Skipped { .. })
     }
 
     /// Whom those blame who wait for the node `d`, which has this fate.

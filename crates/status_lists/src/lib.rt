@@ -2,9 +2,11 @@
 #![tactic(auto)]
 
 mod entries;
+mod exit;
 mod fate;
 mod fates;
 mod printing;
 mod text;
 
+pub use exit::{dry_status, run_status};
 pub use printing::{dry_lists, lists};
