@@ -1,9 +1,10 @@
-//! Cases of catalogues and of the trees of numbers: a line of standard input each, with fields
-//! between bars, and an answer a line.
+//! Cases of catalogues, of the trees of numbers and of what a run and a dry run print: a line of
+//! standard input each, with fields between bars, and an answer a line.
 #![tactic(auto)]
 
 mod catalogues;
 mod made;
+mod printed;
 
 use case_text::{CaseError, shown_answer};
 use std::alloc::{AllocError, Global};
@@ -14,6 +15,13 @@ fn answer(alloc: Global, case: &[&str], out: &mut Vec<u8>) -> Result<(), CaseErr
         ["tree", number, ports] => made::answer_tree(alloc, number, ports, out),
         ["file", number, ports, path] => made::answer_file(alloc, [number, ports, path], out),
         ["catalogue", records @ ..] => catalogues::answer_catalogue(alloc, records, out),
+        ["lists", plan, deleted, moved] => {
+            printed::answer_printed(alloc, [plan, deleted, moved], false, out)
+        }
+        ["dry lists", plan, deleted, moved] => {
+            printed::answer_printed(alloc, [plan, deleted, moved], true, out)
+        }
+        ["skipped", shape, count] => printed::answer_skipped(alloc, shape, count, out),
         _ => Err(CaseError::Unfit),
     }
 }
