@@ -19,7 +19,8 @@ use Rattle.model_laws.proofs.Graph.{installed_are_nodes, target_below}
 use Rattle.model_laws.proofs.Rounds.{one_list}
 use Rattle.stale_check.specs.Fresh.{IsGreatest, fresh}
 use Rattle.stale_check.proofs.Passes.{fresh_is_greatest}
-use Rattle.incremental_law.specs.Stores.{HasItsJob, IsStore, kept_among, kept_by}
+use Rattle.stale_check.specs.Kept.{kept_among, kept_by}
+use Rattle.incremental_law.specs.Stores.{HasItsJob, IsStore}
 use Rattle.incremental_law.specs.Clean.{AreMade, IsAsClean}
 use Rattle.incremental_law.proofs.Alike.{kept_built}
 use Rattle.incremental_law.proofs.Baking.{SaysJob, says_job}

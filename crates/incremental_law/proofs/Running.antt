@@ -33,7 +33,8 @@ use Rattle.model_laws.proofs.Graph.{target_below}
 use Rattle.model_laws.proofs.Rounds.{fewer_stay_sound}
 use Rattle.stale_check.specs.Fresh.{fresh}
 use Rattle.stale_check.proofs.Passes.{fresh_is_greatest}
-use Rattle.incremental_law.specs.Stores.{IsStore, kept_by}
+use Rattle.stale_check.specs.Kept.{kept_by}
+use Rattle.incremental_law.specs.Stores.{IsStore}
 use Rattle.incremental_law.specs.Runs.{put_nodes}
 use Rattle.incremental_law.specs.Saves.{IsSave}
 use Rattle.incremental_law.specs.Journals.{IsBuiltRecord, built_records, DeletesRest, IsPastDeletions}

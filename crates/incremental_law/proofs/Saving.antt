@@ -21,7 +21,8 @@ use Rattle.model_laws.proofs.Closing.{has_all_more}
 use Rattle.model_laws.proofs.Following.{results_unfold}
 use Rattle.stale_check.specs.Fresh.{fresh}
 use Rattle.stale_check.proofs.Passes.{fresh_is_greatest}
-use Rattle.incremental_law.specs.Stores.{IsStore, kept_by}
+use Rattle.stale_check.specs.Kept.{kept_by}
+use Rattle.incremental_law.specs.Stores.{IsStore}
 use Rattle.incremental_law.specs.Saves.{AreOfResults, IsSave, AreSaves}
 use Rattle.incremental_law.proofs.Adding.{Comes, res, built_says, one_more_sound}
 use Rattle.incremental_law.proofs.Making.{own_job, says_own, placed, closed, fresh_made, kept_at-among}

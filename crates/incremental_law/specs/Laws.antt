@@ -17,7 +17,8 @@ use Rattle.bulk_model.specs.Trees.{IsOrderly, IsTree, IsOfTree}
 use Rattle.bulk_model.specs.Views.{JobView, PackageView}
 use Rattle.pkg_record.specs.Stored.{packages_in}
 use Rattle.stale_check.specs.Fresh.{fresh}
-use Rattle.incremental_law.specs.Stores.{HasItsJob, IsStore, kept_by}
+use Rattle.stale_check.specs.Kept.{kept_by}
+use Rattle.incremental_law.specs.Stores.{HasItsJob, IsStore}
 use Rattle.incremental_law.specs.Clean.{AreMade, IsAsClean}
 use Rattle.incremental_law.specs.Journals.{DeletesRest, IsPastDeletions, built_records}
 use Rattle.incremental_law.specs.Runs.{OneRun, IsRunOver, AreRuns, IsDone, HasCleanPackages, content_after}

@@ -16,7 +16,8 @@ use Rattle.bulk_model.specs.Sound.{Recipe, Agrees}
 use Rattle.bulk_model.specs.Trees.{IsOrderly, IsTree, IsOfTree}
 use Rattle.bulk_model.specs.Views.{JobView, PackageView, node_of_package}
 use Rattle.pkg_record.specs.Stored.{packages_in}
-use Rattle.incremental_law.specs.Stores.{HasItsJob, kept_by}
+use Rattle.stale_check.specs.Kept.{kept_by}
+use Rattle.incremental_law.specs.Stores.{HasItsJob}
 use Rattle.incremental_law.specs.Clean.{none_kept}
 use Rattle.incremental_law.specs.Journals.{DeletesRest, built_records}
 

@@ -1,8 +1,6 @@
 -- What a law asks of a store, of the plan over it and of the tree that the plan is of.
-use Rattle.std.specs.Prelude.{◌≡◌, Bool, false, List, map, bytes_eq, Contains}
-use Rattle.std.specs.List.{find}
+use Rattle.std.specs.Prelude.{◌≡◌, Bool, false, List, Contains}
 use Rattle.bulk_base.specs.declared.file.FileItem.{FileItem}
-use Rattle.bulk_model.specs.declared.plan.Kept.{Kept as KeptPackages}
 use Rattle.bulk_model.specs.Bake.{Runs}
 use Rattle.bulk_model.specs.PlanFacts.{IsPlan}
 use Rattle.bulk_model.specs.PlanView.{PlanView}
@@ -10,7 +8,6 @@ use Rattle.bulk_model.specs.Recipe.{recipe}
 use Rattle.bulk_model.specs.Sound.{Recipe, IsTable, Agrees, HasNames, IsSound}
 use Rattle.bulk_model.specs.Trees.{IsOrderly, IsTree, IsOfTree}
 use Rattle.bulk_model.specs.Views.{JobView, PackageView, node_of_job, node_of_package}
-use Rattle.stale_check.specs.Fresh.{fresh}
 
 -- a package has the node and the recipe of a job of the tree
 pub record HasItsJob (tree : List JobView) (base : List FileItem) (p : PackageView) : Type 0 where
@@ -35,13 +32,3 @@ pub record IsStore (runs : Runs) (table : List Recipe) (plan : PlanView) (tree :
   -- the store has one package of a name, and is sound
   pub names : HasNames members
   pub sound : IsSound runs table members
-
--- the packages at a plan's nodes among some packages
-abbrev pub kept_among : PlanView → List PackageView → KeptPackages
-kept_among plan packages = record {
-  packages = map (λ job. find (λ p. bytes_eq (node_of_job job) (node_of_package p)) packages) plan.jobs;
-}
-
--- those that passes leave there
-abbrev pub kept_by : PlanView → (PackageView → Bool) → List PackageView → KeptPackages
-kept_by plan own members = kept_among plan (fresh own members)

@@ -1,5 +1,6 @@
 // The plan of the nodes that a run wants.
 ghost use Rattle.std.specs.Prelude.{◌≡◌, false, IsTrue, IfOk};
+ghost use Rattle.bulk_model.specs.Trees.{IsOrderly};
 ghost use Rattle.outside.specs.Faults.{IsCaused, err_is};
 ghost use Rattle.plan_maker.specs.Nodes.{AreNodes};
 ghost use Rattle.plan_maker.specs.Over.{IsOver};
@@ -34,6 +35,7 @@ pub fn make_plan<T: Tree>(
     ensures told { IsTrue T.tells → Tells
         (steps.plan_step index.now wanted.now boost.now (T.content tree.old)) result }
     ensures over { IfOk result (IsOver index.now wanted.now) }
+    ensures orderly { IfOk result IsOrderly }
     ensures reading { IsOfReading result }
     ensures files { err_is is_of_command result ≡ false }
     ensures same { T.content tree.new ≡ T.content tree.old }

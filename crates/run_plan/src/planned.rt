@@ -1,5 +1,6 @@
 // What a run plans.
 ghost use Rattle.std.specs.Prelude.{◌≡◌, false, Ok, IsTrue, IfOk};
+ghost use Rattle.bulk_model.specs.Trees.{IsOrderly};
 ghost use Rattle.outside.specs.Faults.{IsCaused, err_is};
 ghost use Rattle.plan_maker.specs.Over.{IsOver};
 ghost use Rattle.run_answer.specs.Kind.{blames_tree};
@@ -54,6 +55,7 @@ fn plan_settled<T: Tree>(
     ensures told { IsTrue T.tells → Tells
         (specs.planned_by words.now settings.now builders (T.content tree.old)) result }
     ensures over { IfOk result (λ planned. IsOver planned.index planned.wanted planned.plan) }
+    ensures orderly { IfOk result (λ planned. IsOrderly planned.plan) }
     ensures asked { IfOk result (λ planned. (planned.clean ≡ words.now.clean)
         × (planned.dry_run ≡ words.now.dry_run) × (planned.builders ≡ builders)) }
     ensures reading { IsOfReading result }
@@ -87,6 +89,7 @@ fn plan_words<T: Tree>(
     ensures told { IsTrue T.tells → Tells
         (specs.planned_of words.now (T.content tree.old) rooms) result }
     ensures over { IfOk result (λ planned. IsOver planned.index planned.wanted planned.plan) }
+    ensures orderly { IfOk result (λ planned. IsOrderly planned.plan) }
     ensures asked { IfOk result (λ planned. (planned.clean ≡ words.now.clean)
         × (planned.dry_run ≡ words.now.dry_run)
         × (builders_step rooms planned.dry_run planned.builders ≡ Ok planned.builders)) }
@@ -128,8 +131,9 @@ pub fn plan_run<T: Tree>(
     // the answer, over a tree that tells
     ensures told { IsTrue T.tells → Tells
         (specs.planned words.now (T.content tree.old) rooms) result }
-    // over every tree: the plan is over the index, and it is for what the words ask
+    // over every tree: the plan is over the index, in order, and it is for what the words ask
     ensures over { IfOk result (λ planned. IsOver planned.index planned.wanted planned.plan) }
+    ensures orderly { IfOk result (λ planned. IsOrderly planned.plan) }
     ensures asked { IfOk result (IsAskedBy words.now rooms) }
     // over every tree: what words and rooms alone decide, and no answer of another command
     ensures words { AnswersWords (words_step words.now) result }

@@ -17,3 +17,4 @@ mod reading;
 pub use checking::{ask_for_all, find_gone, held, stale};
 pub use gone::Gone;
 pub use law::{fresh_is_closed, fresh_is_greatest, greatest_is_fresh, no_reason_is_current};
+pub use numbering::node_of;

@@ -1,6 +1,6 @@
 // The places of packages and of nodes by their names.
 ghost use Rattle.std.specs.Prelude.{◌≡◌, ◌<◌, ◌^◌, bytes_eq, length, IfOk, OnOk, IfSome};
-ghost use Rattle.bulk_model.specs.Views.{node_of_package};
+ghost use Rattle.bulk_base.specs.Names.{node_of};
 ghost use Rattle.tree_index.specs.Numbers.{Gains};
 ghost use Rattle.stale_check.specs.Own.{number_of};
 ghost use Rattle.stale_check.specs.Placing.{ArePlaces, AreNumbers};
@@ -49,12 +49,14 @@ pub(crate) fn number_nodes(alloc: Global, nodes: &[NodeInfo]) -> Result<TextMap<
     Ok(numbers)
 }
 
-/// The node that a package was built for.
-fn node_of(alloc: Global, made: &Package) -> Result<Text, NoMemory>
-    ensures { IfOk result (λ node. node ≡ node_of_package made.now) }
+/// The name of the node of an origin and, where it has one, a flavor: the origin, or the origin, `@`
+/// and the flavor (Porter's Handbook, "Flavors"). NoMemory for want of memory alone. Costs a copy of
+/// both.
+pub fn node_of(alloc: Global, origin: &Text, flavor: &Option<Text>) -> Result<Text, NoMemory>
+    ensures { IfOk result (λ node. node ≡ node_of origin.now flavor.now) }
 {
-    let mut node = made.origin.copy(alloc)?;
-    if let Some(flavor) = &made.flavor {
+    let mut node = origin.copy(alloc)?;
+    if let Some(flavor) = flavor {
         node.append(&Text::literal(alloc, b"@")?)?;
         node.append(flavor)?;
     }
@@ -73,5 +75,9 @@ pub(crate) fn number_of_package(
     ensures within { IfOk result (λ number. IfSome number (λ n. n < length nodes.now)) }
 {
     let _ = nodes;
-    Ok(numbers.get(&node_of(alloc, made)?).copied())
+    Ok(
+        numbers
+            .get(&node_of(alloc, &made.origin, &made.flavor)?)
+            .copied(),
+    )
 }
