@@ -1,3 +1,4 @@
 pub mod Failing
 pub mod Found
 pub mod Shell
+pub mod Choice

@@ -15,17 +15,21 @@ mod tests;
 mod walk;
 mod words;
 
-ghost use Rattle.std.specs.Prelude.{◌≤◌, vec_len, IfOk};
+ghost use Rattle.std.specs.Prelude.{◌≡◌, ◌≤◌, vec_len, IfOk};
+ghost use Rattle.command_words.specs.Asked.{asked_of};
+ghost use Rattle.poudriere_cli.specs.Choice.{is_dry_run};
 
 use crate::dir_room::DirRoom;
 use crate::dir_store::DirStore;
 use crate::dir_tree::DirTree;
 use crate::out_sink::OutSink;
-use crate::words::{WordsError, command_words};
-use bulk_base::NoMemory;
-use one_port::Finished;
+use crate::words::{WordsError, given_words};
+use bulk_base::{NoMemory, Text};
+use bulk_run::dry_run;
+use command_words::{Asked, read_words};
+use one_port::poudriere;
 use outside::{OpenGate, Sink};
-use std::alloc::Global;
+use std::alloc::{AllocError, Global};
 use std::process::ExitCode;
 
 /// How many rooms there are.
@@ -82,35 +86,49 @@ fn refuse<K: Sink>(alloc: Global, out: &mut K, error: WordsError) -> ExitCode {
     ExitCode::from(status)
 }
 
+/// Whether words ask what `bulk` would do, and for nothing to be done.
+fn asks_dry_run(alloc: Global, words: &[Text]) -> Result<bool, NoMemory>
+    ensures { IfOk result (λ dry. dry ≡ is_dry_run (asked_of words.now)) }
+{
+    match read_words(alloc, words)? {
+        Asked::Bulk(bulk) => Ok(bulk.dry_run),
+        _ => Ok(false),
+    }
+}
+
+/// Runs the command that words ask for; its exit status.
+fn run<K: Sink>(
+    rt: &HostRuntime,
+    alloc: Global,
+    words: &[Text],
+    outside: Outside,
+    out: &mut K,
+) -> Result<u8, NoMemory>
+    requires { vec_len outside.rooms ≤ 64 }
+{
+    let Outside {
+        mut tree,
+        mut store,
+        rooms,
+    } = outside;
+    if asks_dry_run(alloc, words)? {
+        return Ok(dry_run(alloc, words, &mut tree, &mut store, out).status);
+    }
+    Ok(poudriere(rt, alloc, words, &mut tree, store, rooms, &OpenGate, out).status)
+}
+
 fn main(rt: HostRuntime) -> ExitCode {
     let alloc = rt.alloc();
     let mut out = OutSink::new(rt.stdout());
-    let words = match command_words(&rt, alloc) {
+    let words = match given_words(&rt, alloc) {
         Ok(words) => words,
         Err(error) => return refuse(alloc, &mut out, error),
     };
     let Ok(outside) = Outside::new(&rt, alloc) else {
         return refuse(alloc, &mut out, WordsError::NoMemory);
     };
-    let Outside {
-        mut tree,
-        store,
-        rooms,
-    } = outside;
-    let Finished {
-        status,
-        answer: _,
-        store: _,
-        rooms: _,
-    } = one_port::poudriere(
-        &rt,
-        alloc,
-        words.as_slice(),
-        &mut tree,
-        store,
-        rooms,
-        &OpenGate,
-        &mut out,
-    );
-    ExitCode::from(status)
+    match run(&rt, alloc, words.as_slice(), outside, &mut out) {
+        Ok(status) => ExitCode::from(status),
+        Err(AllocError) => refuse(alloc, &mut out, WordsError::NoMemory),
+    }
 }

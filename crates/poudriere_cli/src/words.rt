@@ -51,7 +51,7 @@ impl From<io::Error> for WordsError {
 }
 
 /// The words behind the program's name.
-pub fn command_words(rt: &HostRuntime, alloc: Global) -> Result<Texts, WordsError> {
+pub fn given_words(rt: &HostRuntime, alloc: Global) -> Result<Texts, WordsError> {
     let mut words = Sequence::new(alloc);
     for word in env::args(rt)?.skip(1) {
         words.push(Text::from_bytes(alloc, word.as_str().as_bytes())?)?;
