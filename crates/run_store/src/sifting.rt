@@ -1,5 +1,5 @@
 // What of a store goes, and what stays for a plan.
-ghost use Rattle.std.specs.Prelude.{◌≡◌, false, IsTrue, IfOk};
+ghost use Rattle.std.specs.Prelude.{◌≡◌, false, length, IsTrue, IfOk};
 ghost use Rattle.bulk_model.specs.Fit.{FitsKept};
 ghost use Rattle.bulk_model.specs.Trees.{IsOrderly};
 ghost use Rattle.outside.specs.Changes.{IsUnchanged};
