@@ -1,5 +1,5 @@
 -- What passes leave of a store fits the plan over the index.
-use Rattle.std.proofs.Common.{◌≡◌, ℕ, ◌<◌, true, false, List, [], length, map, get_or, ap, sym, subst, ◌∙◌, refl}
+use Rattle.std.proofs.Common.{◌≡◌, ℕ, ◌<◌, true, false, List, [], length, get_or, ap, sym, subst, ◌∙◌, refl}
 use Rattle.std.specs.Prelude.{Option, Some, None, is_some, bytes_eq, slice_index_or, Contains}
 use Rattle.std.specs.Option.{unwrap_or}
 use Rattle.std.proofs.lemmas.List.{get_or-map, length-map}
@@ -9,12 +9,11 @@ use Rattle.std.proofs.lemmas.Slice.Eq.{bytes_eq-Decides}
 use Rattle.bulk_model.specs.declared.digest.Recipes.{Recipes}
 use Rattle.bulk_model.specs.Fit.{FitsKept}
 use Rattle.bulk_model.specs.PlanFacts.{IsPlan}
-use Rattle.bulk_model.specs.PlanView.{PlanView, count, no_job, job_at, node_at, is_ignored}
+use Rattle.bulk_model.specs.PlanView.{PlanView, count, no_job, job_at, node_at}
 use Rattle.bulk_model.specs.Trees.{IsOrderly}
-use Rattle.bulk_model.specs.Views.{JobView, PackageView, need_of, node_of_job, node_of_package}
-use Rattle.dep_graph.specs.Reached.{reach}
+use Rattle.bulk_model.specs.Views.{JobView, PackageView, node_of_job, node_of_package}
 use Rattle.plan_maker.specs.Jobs.{no_node, node_at as info_at, job_of}
-use Rattle.plan_maker.specs.Needed.{needed, needs}
+use Rattle.plan_maker.specs.Needed.{needed}
 use Rattle.plan_maker.specs.Nodes.{IsIndexView, AreNodes}
 use Rattle.plan_maker.specs.Over.{IsOver, bare}
 use Rattle.plan_laws.proofs.Apart.{one_node}

@@ -1,11 +1,9 @@
 -- What a test by name keeps of packages is what is left of them.
-use Rattle.std.proofs.Common.{◌≡◌, ℕ, ◌<◌, Bool, true, false, not, List, length, ap, sym, subst, refl, ◌∙◌}
+use Rattle.std.proofs.Common.{◌≡◌, ◌<◌, Bool, true, not, List, length, ap, subst, refl, ◌∙◌}
 use Rattle.std.specs.Prelude.{Option, filter, Contains, bytes_eq, is_some}
-use Rattle.std.specs.List.{list_any}
 use Rattle.std.proofs.lemmas.List.{get_or_default}
 use Rattle.std.specs.Cmp.Lexicographic.{bytes_decides}
 use Rattle.bulk_base.proofs.Members.{member_any, filter_into, filter_out_of}
-use Rattle.bulk_model.specs.Flags.{flag}
 use Rattle.bulk_model.specs.Views.{PackageView}
 use Rattle.bulk_model.specs.declared.reason.Reason.{Reason}
 use Rattle.stale_check.specs.Fresh.{IsGreatest}

