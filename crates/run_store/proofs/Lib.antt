@@ -1,0 +1,4 @@
+pub mod Remaining
+pub mod Firsts
+pub mod Staying
+pub mod Fitting
