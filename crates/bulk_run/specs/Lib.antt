@@ -1,0 +1,4 @@
+pub mod DryRun
+pub mod Refusals
+pub mod Ending
+pub mod Blame
