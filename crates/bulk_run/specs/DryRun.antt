@@ -27,10 +27,14 @@ dry_report run sifted = record {
   status = exit_status (dry_statuses run.plan sifted.kept);
 }
 
--- what a dry run tells: words and tree give a plan, whatever rooms there are, and the store is
--- looked through for it; or the first refusal
+-- what is told of a plan: the store is looked through for it; or the first refusal of that
+unfoldable pub told_of : Contents → Contents → Planned → Result Report Answer
+told_of tree store run = do
+  sifted ← sift_by run.clean tree store run
+  Ok (dry_report run sifted)
+
+-- what a dry run tells: words and tree give a plan, whatever rooms there are; or the first refusal
 unfoldable pub dry_step : List (List ℕ) → Contents → Contents → Result Report Answer
 dry_step words tree store = do
   run ← planned words tree None
-  sifted ← sift_by run.clean tree store run
-  Ok (dry_report run sifted)
+  told_of tree store run

@@ -69,6 +69,30 @@ fn write_report(alloc: Global, run: &Planned, sifted: &Sifted) -> Result<Report,
     })
 }
 
+// What is told of a plan, or the refusal of the store.
+#[tactic(auto, unfolding(crate::specs::DryRun::told_of))]
+fn tell_plan<T: Tree, S: Store>(
+    alloc: Global,
+    tree: &mut T,
+    store: &mut S,
+    run: &Planned,
+) -> Result<Report, Answer>
+    requires over { IsOverSome run.now.index run.now.plan }
+    requires orderly { IsOrderly run.now.plan }
+    ensures told { IsTrue T.tells → IsTrue S.tells → Tells
+        (specs.told_of (T.content tree.old) (S.content store.old) run.now) result }
+    ensures answers { IsOfStore result }
+    ensures status { IfOk result (λ report. report.status ≤ 1) }
+    ensures tree { T.content tree.new ≡ T.content tree.old }
+    ensures same { IsUnchanged (S.content store.old) (S.content store.new)
+        (S.journal store.old) (S.journal store.new) }
+    ensures tree_cause { IsCaused (T.faults tree.old) (T.faults tree.new) (err_is blames_tree result) }
+    ensures store_cause { IsCaused (S.faults store.old) (S.faults store.new) (err_is blames_store result) }
+{
+    let sifted = sift(alloc, tree, store, run)?;
+    Ok(write_report(alloc, run, &sifted)?)
+}
+
 /// What a dry run has to print: its words and the tree give a plan, the store is looked through
 /// for it, and every build is taken to succeed. Or the first refusal: those of `plan_run` of
 /// run_plan, whatever builders are asked for, then those of `sift_store` of run_store, or with `-c`
@@ -99,6 +123,5 @@ pub(crate) fn find_report<T: Tree, S: Store>(
     ensures store_cause { IsCaused (S.faults store.old) (S.faults store.new) (err_is blames_store result) }
 {
     let run = plan_run(alloc, tree, words, None)?;
-    let sifted = sift(alloc, tree, store, &run)?;
-    Ok(write_report(alloc, &run, &sifted)?)
+    tell_plan(alloc, tree, store, &run)
 }
