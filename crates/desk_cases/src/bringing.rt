@@ -32,6 +32,6 @@ pub(crate) fn bring<R: Wait>(
     if is_kept(kept, n as usize) || is_ignored(plan, n as usize) {
         return None;
     }
-    let name = &plan.jobs.as_slice()[n as usize].name;
-    Some(desk.keep(rt, alloc, seat, n, name.bytes()))
+    let job = &plan.jobs.as_slice()[n as usize];
+    Some(desk.keep(rt, alloc, seat, n, job.name.bytes()))
 }
