@@ -1,0 +1,6 @@
+mod Still
+mod Facts
+mod Packages
+mod Saving
+mod First
+mod Second
