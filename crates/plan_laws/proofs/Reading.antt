@@ -48,7 +48,7 @@ pub goes_on : {A B E : Type 0} (r : Result A E) (f : A → Result B E) (b : B) �
 goes_on (Ok a) f b h = record { first = a; is = refl; then = h }
 goes_on (Err e) f b h = absurd (cc)
 
-same_ok : {A E : Type 0} (a b : A) → (let r : Result A E = Ok a in r) ≡ Ok b → a ≡ b
+pub same_ok : {A E : Type 0} (a b : A) → (let r : Result A E = Ok a in r) ≡ Ok b → a ≡ b
 same_ok a b e = cc e
 
 -- ---- a port's own files

@@ -3,4 +3,7 @@
 
 mod law;
 
-pub use law::recipes_are_of_the_tree;
+pub use law::{
+    asked_nodes_have_recipes, distfiles_are_as_stated, jobs_are_a_tree, plans_are_of_their_tree,
+    recipes_are_of_the_tree,
+};

@@ -1,6 +1,7 @@
 // The places of packages and of nodes by their names.
 ghost use Rattle.std.specs.Prelude.{◌≡◌, ◌<◌, ◌^◌, bytes_eq, length, IfOk, OnOk, IfSome};
 ghost use Rattle.bulk_base.specs.Names.{node_of};
+ghost use Rattle.bulk_model.specs.Views.{node_of_package};
 ghost use Rattle.tree_index.specs.Numbers.{Gains};
 ghost use Rattle.stale_check.specs.Own.{number_of};
 ghost use Rattle.stale_check.specs.Placing.{ArePlaces, AreNumbers};
@@ -63,6 +64,13 @@ pub fn node_of(alloc: Global, origin: &Text, flavor: &Option<Text>) -> Result<Te
     Ok(node)
 }
 
+/// The node that a package was built for.
+fn node_of_package(alloc: Global, made: &Package) -> Result<Text, NoMemory>
+    ensures { IfOk result (λ node. node ≡ node_of_package made.now) }
+{
+    node_of(alloc, &made.origin, &made.flavor)
+}
+
 /// The number of the node that a package was built for.
 pub(crate) fn number_of_package(
     alloc: Global,
@@ -75,9 +83,5 @@ pub(crate) fn number_of_package(
     ensures within { IfOk result (λ number. IfSome number (λ n. n < length nodes.now)) }
 {
     let _ = nodes;
-    Ok(
-        numbers
-            .get(&node_of(alloc, &made.origin, &made.flavor)?)
-            .copied(),
-    )
+    Ok(numbers.get(&node_of_package(alloc, made)?).copied())
 }
