@@ -15,7 +15,8 @@ use Rattle.bulk_model.specs.Sound.{Recipe, IsTable, Agrees, recipe_of}
 use Rattle.bulk_model.specs.Trees.{IsOrderly, IsTree, IsOfTree, need_at}
 use Rattle.bulk_model.specs.Views.{JobView, PackageView, node_of_job}
 use Rattle.bulk_model.proofs.PlanTests.{targets_tested, without_tested}
-use Rattle.incremental_example.specs.Diamond.{bot, left, right, top, tree, diamond, recipes, HaveOwnDigests}
+use Rattle.incremental_example.specs.Ports.{bot, left, right, top, tree, diamond}
+use Rattle.incremental_example.specs.Diamond.{ports, recipes, HaveOwnDigests}
 
 -- ---- members of different names are different
 
@@ -124,9 +125,6 @@ pub is_of_tree : (on : Bool) → IsOfTree (diamond on) (tree on)
 is_of_tree on = record { built = λ n l free. stands on n l; ignored = λ n job l barred c e. true≢false (sym barred ∙ allowed on n l) }
 
 -- ---- the table
-
-abbrev pub ports : List JobView
-ports = bot ∷ left ∷ right false ∷ top ∷ right true ∷ []
 
 pub within : (on : Bool) (job : JobView) → Contains (tree on) job → Contains ports job
 within on job c =

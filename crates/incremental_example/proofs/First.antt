@@ -25,7 +25,8 @@ use Rattle.pkg_record.specs.Stored.{record_in, package_of, packages_in}
 use Rattle.stale_check.specs.Kept.{kept_by}
 use Rattle.incremental_law.specs.Journals.{DeletesRest, built_records}
 use Rattle.incremental_law.specs.Runs.{IsRunOver, IsDone, kept_of_run, put_nodes}
-use Rattle.incremental_example.specs.Diamond.{right, need, tree, diamond, first, recipes, nothing, save, own_reason, bot_package, left_package, right_package, top_package}
+use Rattle.incremental_example.specs.Ports.{right, need, tree, diamond, bot_package, left_package, right_package, top_package}
+use Rattle.incremental_example.specs.Diamond.{first, recipes, nothing, whole, save, own_reason, HoldsJust}
 use Rattle.record_laws.proofs.Storing.{other_put}
 use Rattle.incremental_example.proofs.Facts.{is_plan, is_orderly, is_tree, is_of_tree, agrees}
 use Rattle.incremental_example.proofs.Packages.{bot_recorded, left_recorded, right_recorded, top_recorded, its_job}
@@ -200,12 +201,11 @@ names_differ : IsDistinct bytes_eq (map (λ (p : PackageView). p.name) four)
 unfolding IsDistinct
 names_differ = ((refl, (refl, (refl, tt))), ((refl, (refl, tt)), ((refl, tt), (tt, tt))))
 
-pub left_by_first : (q : PackageView) → Contains (packages_in (replayed first.changes nothing)) q ↔ Contains four q
-left_by_first q =
-    let saved : Contents = replayed (map save four) nothing in (
-      λ c. elim (only_saved four nothing all_recorded q ((other_put (replayed (map save four) nothing) catalogue_file [] refl q).0 c)) [
-        | inl h ↦ h
-        | inr h ↦ absurd (contains_none q (subst (λ ms. Contains ms q) nothing_there h))
-      ],
-      λ c. (other_put (replayed (map save four) nothing) catalogue_file [] refl q).1 (all_saved four names_differ nothing all_recorded q c),
-    )
+pub full : HoldsJust whole four
+full q = (
+  λ c. elim (only_saved four nothing all_recorded q ((other_put (replayed (map save four) nothing) catalogue_file [] refl q).0 c)) [
+    | inl h ↦ h
+    | inr h ↦ absurd (contains_none q (subst (λ ms. Contains ms q) nothing_there h))
+  ],
+  λ c. (other_put (replayed (map save four) nothing) catalogue_file [] refl q).1 (all_saved four names_differ nothing all_recorded q c),
+)

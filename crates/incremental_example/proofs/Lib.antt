@@ -4,3 +4,4 @@ mod Packages
 mod Saving
 mod First
 mod Second
+mod Meeting

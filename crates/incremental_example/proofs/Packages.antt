@@ -18,7 +18,8 @@ use Rattle.bulk_model.specs.Recipe.{recipe}
 use Rattle.bulk_model.specs.Views.{JobView, PackageView, node_of_job, node_of_package}
 use Rattle.pkg_record.specs.Laws.{IsDigest, HasRecord}
 use Rattle.pkg_record.proofs.Hashes.{sha256_bytes}
-use Rattle.incremental_example.specs.Diamond.{name_of, origin_of, bot, left, right, top, bot_package, left_package, right_package, top_package, has_job, own_reason}
+use Rattle.incremental_example.specs.Ports.{name_of, origin_of, bot, left, right, top, bot_package, left_package, right_package, top_package}
+use Rattle.incremental_example.specs.Diamond.{has_job, own_reason}
 use Rattle.incremental_law.specs.Stores.{HasItsJob}
 
 -- ---- records

@@ -1,7 +1,8 @@
 -- The second run: what it keeps, deletes and puts before it is stopped.
-use Rattle.std.proofs.Common.{◌≡◌, ℕ, Bool, true, false, not, List, [], ◌∷◌, ◌++◌, refl, ap, sym, subst, ◌∙◌, arith, Option, Some, None, inl, inr, ◌⊎◌}
+use Rattle.std.proofs.Common.{◌≡◌, ◌≢◌, ℕ, zero, suc, Bool, true, false, not, List, [], ◌∷◌, ◌++◌, refl, ap, sym, subst, ◌∙◌, arith, Option, Some, None, inl, inr, ◌⊎◌}
 use Rattle.std.specs.Prelude.{◌&&◌, ◌||◌, codes, is_some, is_none, bytes_eq, Contains}
 use Rattle.std.specs.List.{find, list_any}
+use Rattle.std.specs.FinMap.{remove}
 use Rattle.std.proofs.lemmas.Bool.{true≢false}
 use Rattle.std.proofs.lemmas.Slice.Eq.{bytes_eq-Decides}
 use Rattle.bulk_base.specs.declared.file.Switch.{Switch}
@@ -26,12 +27,14 @@ use Rattle.stale_check.specs.Fresh.{fresh, IsFree, IsGreatest}
 use Rattle.incremental_law.specs.Stores.{HasItsJob}
 use Rattle.incremental_law.specs.Journals.{DeletesRest, built_records}
 use Rattle.incremental_law.specs.Runs.{IsRunOver, kept_of_run}
-use Rattle.incremental_example.specs.Diamond.{HaveOwnDigests, name_of, bot, left, right, top, need, tree, diamond, first, second, recipes, nothing, save, own_reason, bot_package, left_package, right_package, top_package}
+use Rattle.incremental_example.specs.Ports.{name_of, bot, left, right, top, need, tree, diamond, bot_package, left_package, right_package, top_package}
+use Rattle.incremental_example.specs.Diamond.{HaveOwnDigests, ports, first, second, concerned, recipes, nothing, whole, stopped, save, own_reason, HoldsJust, KeepsJust}
+use Rattle.record_laws.proofs.Storing.{after_a_put, after_a_removal}
 use Rattle.stale_check.proofs.Passes.{fresh_is_greatest}
-use Rattle.incremental_example.proofs.Facts.{is_plan, is_orderly, is_tree, is_of_tree, agrees, ports, within}
+use Rattle.incremental_example.proofs.Facts.{is_plan, is_orderly, is_tree, is_of_tree, agrees, within}
 use Rattle.incremental_example.proofs.Packages.{right_recorded, no_reason, its_job}
 use Rattle.incremental_example.proofs.Still.{res, kept_status}
-use Rattle.incremental_example.proofs.First.{four, left_by_first, right_is}
+use Rattle.incremental_example.proofs.First.{four, full, right_is}
 
 -- ---- what finds the packages at nodes
 
@@ -51,11 +54,8 @@ module _ {X : Type 0} (test : X → Bool) (xs : List X) where
 
 -- ---- what passes leave
 
-abbrev content : Contents
-content = replayed first.changes nothing
-
 abbrev members : List PackageView
-members = packages_in content
+members = packages_in whole
 
 abbrev own : PackageView → Bool
 own = own_reason (tree true)
@@ -94,7 +94,7 @@ bot_meant = (bytes_eq-Decides (mark bot_package).bytes (mark bot_package).bytes)
 
 two_within : IsWithin two members
 two_within p c =
-    (left_by_first p).1 (cases_of_two (Contains four) (0, omega arith, refl) (1, omega arith, refl) p c)
+    (full p).1 (cases_of_two (Contains four) (0, omega arith, refl) (1, omega arith, refl) p c)
 
 two_closed : IsClosed two
 two_closed p c =
@@ -138,59 +138,63 @@ module _ (apart : HaveOwnDigests) where
       all_passes (λ d. list_any (is_recorded_as d) remains) top_package.depends on_right (greatest.closed top_package c) (1, omega arith, refl) in
       let m : Member (is_recorded_as on_right) remains = any_member (is_recorded_as on_right) remains has in
       cases_of_four (λ q. is_recorded_as on_right q ≡ true → Contains remains q → ⊥) (λ e h. true≢false (sym e)) (λ e h. true≢false (sym e)) (λ e h. right_goes h) (λ e h. true≢false (sym e))
-      m.one ((left_by_first m.one).0 (greatest.within m.one m.is)) m.does m.is
+      m.one ((full m.one).0 (greatest.within m.one m.is)) m.does m.is
 
   only_two : (q : PackageView) → Contains remains q → Contains two q
   only_two q c =
       cases_of_four (λ p. Contains remains p → Contains two p) (λ h. (0, omega arith, refl)) (λ h. (1, omega arith, refl)) (λ h. absurd (right_goes h)) (λ h. absurd (top_goes h))
-      q ((left_by_first q).0 (greatest.within q c)) c
+      q ((full q).0 (greatest.within q c)) c
 
   -- ---- what is kept
 
   abbrev kept : KeptPackages
-  kept = kept_of_run second (replayed first.changes nothing)
+  kept = kept_of_run second whole
 
-  pub keeps_bot : kept_at kept 0 ≡ Some bot_package
+  keeps_bot : kept_at kept 0 ≡ Some bot_package
   keeps_bot =
       found (λ p. bytes_eq (node_of_job bot) (node_of_package p)) remains bot_package
       (λ q c e. cases_of_two (λ p. bytes_eq (node_of_job bot) (node_of_package p) ≡ true → p ≡ bot_package) (λ t. refl) (λ t. absurd (true≢false (sym t))) q (only_two q c) e) bot_remains refl
 
-  pub keeps_left : kept_at kept 1 ≡ Some left_package
+  keeps_left : kept_at kept 1 ≡ Some left_package
   keeps_left =
       found (λ p. bytes_eq (node_of_job left) (node_of_package p)) remains left_package
       (λ q c e. cases_of_two (λ p. bytes_eq (node_of_job left) (node_of_package p) ≡ true → p ≡ left_package) (λ t. absurd (true≢false (sym t))) (λ t. refl) q (only_two q c) e) left_remains refl
 
-  pub builds_right : kept_at kept 2 ≡ None
+  builds_right : kept_at kept 2 ≡ None
   builds_right =
       none_found (λ p. bytes_eq (node_of_job (right true)) (node_of_package p)) remains
       (λ q c e. cases_of_two (λ p. bytes_eq (node_of_job (right true)) (node_of_package p) ≡ true → ⊥) (λ t. true≢false (sym t)) (λ t. true≢false (sym t)) q (only_two q c) e)
 
-  pub builds_top : kept_at kept 3 ≡ None
+  builds_top : kept_at kept 3 ≡ None
   builds_top =
       none_found (λ p. bytes_eq (node_of_job top) (node_of_package p)) remains
       (λ q c e. cases_of_two (λ p. bytes_eq (node_of_job top) (node_of_package p) ≡ true → ⊥) (λ t. true≢false (sym t)) (λ t. true≢false (sym t)) q (only_two q c) e)
 
+  pub keeps : KeepsJust second whole (Some bot_package ∷ Some left_package ∷ None ∷ None ∷ [])
+  keeps zero l = keeps_bot
+  keeps (suc zero) l = keeps_left
+  keeps (suc (suc zero)) l = builds_right
+  keeps (suc (suc (suc zero))) l = builds_top
+  keeps (suc (suc (suc (suc n)))) l = absurd (omega arith)
+
   -- ---- what is deleted
 
-  abbrev deleted : List (List ℕ)
-  deleted = package_file (name_of (codes "right")) ∷ package_file (name_of (codes "top")) ∷ []
-
-  name_deleted : (file : List ℕ) → Contains deleted file → (name : List ℕ) × (file ≡ package_file name)
-  name_deleted file c =
+  name_deleted : (file : List ℕ) → Contains concerned file → (name : List ℕ) × (file ≡ package_file name)
+  name_concerned file c =
       elim (contains_cases (package_file (name_of (codes "right"))) (package_file (name_of (codes "top")) ∷ []) file c) [
         | inl e ↦ (name_of (codes "right"), sym e)
         | inr c ↦ elim (contains_cases (package_file (name_of (codes "top"))) [] file c) [ inl e ↦ (name_of (codes "top"), sym e) | inr c ↦ absurd (contains_none file c) ]
       ]
 
-  not_deleted : (file : List ℕ) → list_any (λ other. bytes_eq other file) deleted ≡ false → Contains deleted file → ⊥
-  not_deleted file none c = true≢false (sym (member_any (λ other. bytes_eq other file) deleted file c ((bytes_eq-Decides file file).1 refl)) ∙ none)
+  not_deleted : (file : List ℕ) → list_any (λ other. bytes_eq other file) concerned ≡ false → Contains concerned file → ⊥
+  not_concerned file none c = true≢false (sym (member_any (λ other. bytes_eq other file) concerned file c ((bytes_eq-Decides file file).1 refl)) ∙ none)
 
-  rest : DeletesRest own members deleted
+  rest : DeletesRest own members concerned
   rest = record {
     files = name_deleted;
-    spared = λ p c. cases_of_two (λ q. Contains deleted (package_file q.name) → ⊥) (not_deleted (package_file bot_package.name) refl) (not_deleted (package_file left_package.name) refl) p (only_two p c);
-    gone = λ p c. cases_of_four (λ q. Contains remains q ⊎ Contains deleted (package_file q.name)) (inl bot_remains) (inl left_remains) (inr (0, omega arith, refl)) (inr (1, omega arith, refl))
-        p ((left_by_first p).0 c);
+    spared = λ p c. cases_of_two (λ q. Contains concerned (package_file q.name) → ⊥) (not_deleted (package_file bot_package.name) refl) (not_deleted (package_file left_package.name) refl) p (only_two p c);
+    gone = λ p c. cases_of_four (λ q. Contains remains q ⊎ Contains concerned (package_file q.name)) (inl bot_remains) (inl left_remains) (inr (0, omega arith, refl)) (inr (1, omega arith, refl))
+        p ((full p).0 c);
   }
 
   -- ---- what is put
@@ -221,7 +225,7 @@ module _ (apart : HaveOwnDigests) where
     abbrev are : ArePuts (diamond true) kept passes [] puts
     are = (2, put_right, tt)
 
-    pub second_is : IsRunOver runs recipes second (replayed first.changes nothing)
+    pub second_is : IsRunOver runs recipes second whole
     second_is = record {
       is_plan = is_plan true;
       orderly = is_orderly true;
@@ -232,3 +236,59 @@ module _ (apart : HaveOwnDigests) where
       rest = rest;
       journal = saving puts are;
     }
+
+-- ---- what the stop leaves
+
+abbrev three : List PackageView
+three = bot_package ∷ left_package ∷ right_package true ∷ []
+
+cases_of_three : (P : PackageView → Type 0) → P bot_package → P left_package → P (right_package true) → (p : PackageView) → Contains three p → P p
+cases_of_three P b l r p c =
+    elim (contains_cases bot_package (left_package ∷ right_package true ∷ []) p c) [
+      | inl e ↦ subst P e b
+      | inr c ↦ elim (contains_cases left_package (right_package true ∷ []) p c) [
+        | inl e ↦ subst P e l
+        | inr c ↦ elim (contains_cases (right_package true) [] p c) [ inl e ↦ subst P e r | inr c ↦ absurd (contains_none p c) ]
+      ]
+    ]
+
+abbrev right_name : List ℕ
+right_name = name_of (codes "right")
+
+abbrev top_name : List ℕ
+top_name = name_of (codes "top")
+
+-- the contents behind the first removal and behind both
+abbrev without_right : Contents
+without_right = remove whole (package_file right_name)
+
+abbrev without_both : Contents
+without_both = remove without_right (package_file top_name)
+
+other_name : (a b : List ℕ) → bytes_eq a b ≡ false → a ≢ b
+other_name a b h e = true≢false (sym ((bytes_eq-Decides a b).1 e) ∙ h)
+
+of_whole : (q : PackageView) → Contains (packages_in without_both) q → Contains three q
+of_whole q c =
+    let no_top = (after_a_removal without_right top_name q).0 c in
+    let no_right = (after_a_removal whole right_name q).0 no_top.0 in
+    cases_of_four (λ p. p.name ≢ right_name → p.name ≢ top_name → Contains three p) (λ n m. (0, omega arith, refl)) (λ n m. (1, omega arith, refl)) (λ n m. absurd (n refl)) (λ n m. absurd (m refl))
+    q ((full q).0 no_right.0) no_right.1 no_top.1
+
+stays_there : (q : PackageView) → Contains four q → bytes_eq q.name right_name ≡ false → bytes_eq q.name top_name ≡ false → Contains (packages_in stopped) q
+stays_there q c n m =
+    (after_a_put without_both (right_package true) (right_recorded true) q).1
+    (inr (
+      (after_a_removal without_right top_name q).1 ((after_a_removal whole right_name q).1 ((full q).1 c, other_name q.name right_name n), other_name q.name top_name m),
+      other_name q.name right_name n,
+    ))
+
+pub leaves : HoldsJust stopped three
+leaves q = (
+  λ c. elim ((after_a_put without_both (right_package true) (right_recorded true) q).0 c) [
+    | inl e ↦ subst (Contains three) (sym e) (2, omega arith, refl)
+    | inr other ↦ of_whole q other.0
+  ],
+  λ c. cases_of_three (λ p. Contains (packages_in stopped) p) (stays_there bot_package (0, omega arith, refl) refl refl) (stays_there left_package (1, omega arith, refl) refl refl)
+      ((after_a_put without_both (right_package true) (right_recorded true) (right_package true)).1 (inl refl)) q c,
+)

@@ -26,7 +26,7 @@ use Rattle.bulk_model.specs.PlanView.{PlanView, count, depends, is_ignored, job_
 use Rattle.bulk_model.specs.Results.{kept_at, bakes_by, is_good, package_in, status_of_outcome, status_at}
 use Rattle.bulk_model.specs.Views.{JobView, PackageView}
 use Rattle.model_laws.proofs.Following.{results_unfold}
-use Rattle.incremental_example.specs.Diamond.{port}
+use Rattle.incremental_example.specs.Ports.{port}
 
 pub entries-empty : entries (empty {X = List ℕ} {R = slice_cmp nat_cmp}) ≡ []
 entries-empty = nil_from_length _ (sym (len-entries empty) ∙ len-empty (slice_cmp nat_cmp) (List ℕ))
