@@ -180,14 +180,14 @@ module _ (apart : HaveOwnDigests) where
   -- ---- what is deleted
 
   name_deleted : (file : List ℕ) → Contains concerned file → (name : List ℕ) × (file ≡ package_file name)
-  name_concerned file c =
+  name_deleted file c =
       elim (contains_cases (package_file (name_of (codes "right"))) (package_file (name_of (codes "top")) ∷ []) file c) [
         | inl e ↦ (name_of (codes "right"), sym e)
         | inr c ↦ elim (contains_cases (package_file (name_of (codes "top"))) [] file c) [ inl e ↦ (name_of (codes "top"), sym e) | inr c ↦ absurd (contains_none file c) ]
       ]
 
   not_deleted : (file : List ℕ) → list_any (λ other. bytes_eq other file) concerned ≡ false → Contains concerned file → ⊥
-  not_concerned file none c = true≢false (sym (member_any (λ other. bytes_eq other file) concerned file c ((bytes_eq-Decides file file).1 refl)) ∙ none)
+  not_deleted file none c = true≢false (sym (member_any (λ other. bytes_eq other file) concerned file c ((bytes_eq-Decides file file).1 refl)) ∙ none)
 
   rest : DeletesRest own members concerned
   rest = record {
