@@ -116,7 +116,12 @@ fn crew_of<R: Threads + Wait + Sync>(
     let (a, c) = desk.split(a);
     let (a, d) = desk.split(a);
     let [of_a, of_b, of_c, of_d] = hands;
-    let mut crew = [at_work(a, of_a), at_work(b, of_b), at_work(c, of_c), at_work(d, of_d)];
+    let mut crew = [
+        at_work(a, of_a),
+        at_work(b, of_b),
+        at_work(c, of_c),
+        at_work(d, of_d),
+    ];
     work_all(rt, alloc, &desk, plan, kept, crew.as_mut_slice());
     let [a, b, c, d] = crew;
     let first = as_one(&desk, a, b);
@@ -185,7 +190,14 @@ fn push_closed(
     push_number(alloc, out, journal.len() as u64)?;
     push_str(out, " put, ")?;
     let ordered = is_in_order(alloc, plan, kept, journal)?;
-    push_str(out, if ordered { "dependencies first" } else { "out of order" })
+    push_str(
+        out,
+        if ordered {
+            "dependencies first"
+        } else {
+            "out of order"
+        },
+    )
 }
 
 fn push_crew<R: Threads + Wait + Sync>(
@@ -199,8 +211,15 @@ fn push_crew<R: Threads + Wait + Sync>(
 ) -> Result<(), NoMemory> {
     match Desk::<MemStore, Untold>::new(alloc, store, plan.share()?, kept.share()?) {
         Ok((desk, seat)) => {
-            let Desked { store, saved } =
-                crew_of(rt, alloc, desk, seat, plan.get(), kept.get(), hands);
+            let Desked { store, saved } = crew_of(
+                rt,
+                alloc,
+                desk,
+                seat,
+                plan.get(),
+                kept.get(),
+                hands,
+            );
             push_closed(alloc, plan.get(), kept.get(), &store, &saved, out)
         }
         Err(DeskRefused { store: _ }) => push_str(out, "refused"),

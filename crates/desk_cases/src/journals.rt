@@ -42,9 +42,7 @@ fn place_of(names: &[Text], change: &Change) -> Option<usize> {
 }
 
 fn are_there(kept: &Kept, put: &Flags, edges: &[Edge]) -> bool {
-    edges
-        .iter()
-        .all(|edge| is_kept(kept, edge.to as usize) || put.get(edge.to as usize))
+    edges.iter().all(|edge| is_kept(kept, edge.to as usize) || put.get(edge.to as usize))
 }
 
 /// Marks the node of a change. Answers whether it is a put of a node whose dependencies are all kept or

@@ -20,7 +20,9 @@ fn answer<R: Threads + Wait + Sync>(
     out: &mut Vec<u8>,
 ) -> Result<(), CaseError> {
     match case {
-        ["seats", plan, fails, steps] => two_seats::answer_steps(rt, alloc, plan, fails, steps, out),
+        ["seats", plan, fails, steps] => two_seats::answer_steps(
+            rt, alloc, plan, fails, steps, out,
+        ),
         ["crew", shape, count, seed, fails] => {
             crew::answer_crew(rt, alloc, shape, count, seed, fails, out)
         }

@@ -87,9 +87,7 @@ fn play<R: Wait>(
     requires answers { length answers.old ≡ length steps.now }
 {
     let (mut p, mut q) = desk.split(seat);
-    take_steps(
-        rt, alloc, &desk, plan, kept, steps, &mut p, &mut q, answers,
-    );
+    take_steps(rt, alloc, &desk, plan, kept, steps, &mut p, &mut q, answers);
     let seat = desk.join(p, q);
     desk.close(seat)
 }

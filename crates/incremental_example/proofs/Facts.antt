@@ -1,19 +1,18 @@
 -- The diamond is a plan of its tree, and the recipes are a table of both trees.
-use Rattle.std.proofs.Common.{◌≡◌, ℕ, zero, suc, ◌<◌, Bool, true, false, List, [], ◌∷◌, refl, ap, sym, subst, ◌∙◌, arith, Option, Some, None, inl, inr, ◌⊎◌}
-use Rattle.std.specs.Prelude.{codes, map, slice_index_or, bytes_eq, IsTrue, Contains}
+use Rattle.std.proofs.Common.{◌≡◌, ℕ, zero, suc, ◌<◌, Bool, true, false, List, [], ◌∷◌, refl, ap, sym, subst, ◌∙◌, arith, inl, inr}
+use Rattle.std.specs.Prelude.{map, bytes_eq, IsTrue, Contains}
 use Rattle.std.specs.List.{IsDistinct, AllByRecursion, All}
 use Rattle.std.specs.List.Sorted.{IsStrictlySortedBy}
 use Rattle.std.specs.Cmp.Lexicographic.{slice_cmp}
 use Rattle.std.specs.Ordering.{nat_cmp, is_lt}
 use Rattle.std.proofs.lemmas.Bool.{true≢false}
 use Rattle.std.proofs.lemmas.Slice.Eq.{bytes_eq-Decides}
-use Rattle.bulk_base.proofs.Members.{contains_here, contains_more, contains_cases, contains_none, contains_map, map_contains, Source}
+use Rattle.bulk_base.proofs.Members.{contains_cases, contains_none, contains_map, map_contains, Source}
 use Rattle.bulk_model.specs.PlanFacts.{IsPlan}
-use Rattle.bulk_model.specs.PlanView.{PlanView, count, job_at, node_at, edges_from, is_ignored}
-use Rattle.bulk_model.specs.Recipe.{recipe}
+use Rattle.bulk_model.specs.PlanView.{job_at, node_at, edges_from, is_ignored}
 use Rattle.bulk_model.specs.Sound.{Recipe, IsTable, Agrees, recipe_of}
 use Rattle.bulk_model.specs.Trees.{IsOrderly, IsTree, IsOfTree, need_at}
-use Rattle.bulk_model.specs.Views.{JobView, PackageView, node_of_job}
+use Rattle.bulk_model.specs.Views.{JobView, node_of_job}
 use Rattle.bulk_model.proofs.PlanTests.{targets_tested, without_tested}
 use Rattle.incremental_example.specs.Ports.{bot, left, right, top, tree, diamond}
 use Rattle.incremental_example.specs.Diamond.{ports, recipes, HaveOwnDigests}

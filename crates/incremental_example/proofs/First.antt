@@ -1,20 +1,19 @@
 -- The first run.
-use Rattle.std.proofs.Common.{◌≡◌, ◌≢◌, ℕ, zero, suc, ◌<◌, Bool, true, false, List, [], ◌∷◌, ◌++◌, refl, ap, sym, subst, ◌∙◌, arith, Option, Some, None, inl, inr, ◌⊎◌}
-use Rattle.std.specs.Prelude.{◌&&◌, ◌||◌, ◌↔◌, codes, map, filter, is_some, bytes_eq, Contains}
+use Rattle.std.proofs.Common.{◌≡◌, ℕ, zero, suc, ◌<◌, Bool, true, false, List, [], ◌∷◌, refl, ap, subst, ◌∙◌, arith, Option, Some, None, inl, inr}
+use Rattle.std.specs.Prelude.{◌&&◌, ◌||◌, codes, map, filter, is_some, bytes_eq, Contains}
 use Rattle.std.specs.List.{IsDistinct, filter_map, cons_option}
 use Rattle.std.specs.Option.{option_and_then}
-use Rattle.bulk_base.proofs.Members.{contains_here, contains_more, contains_cases, contains_none}
+use Rattle.bulk_base.proofs.Members.{contains_cases, contains_none}
 use Rattle.outside.specs.Changes.{replayed}
-use Rattle.outside.specs.Contents.{Contents}
 use Rattle.outside.specs.declared.change.Change.{Change}
 use Rattle.bulk_model.specs.declared.depend.DepKind.TheVariants.{Build, Lib}
 use Rattle.bulk_model.specs.declared.plan.Kept.{Kept as KeptPackages}
 use Rattle.bulk_model.specs.declared.results.Status.{Status}
-use Rattle.bulk_model.specs.declared.results.Status.TheVariants.{Kept, Built}
+use Rattle.bulk_model.specs.declared.results.Status.TheVariants.{Built}
 use Rattle.bulk_model.specs.declared.version.Version.TheVariants.{Two}
 use Rattle.bulk_model.specs.Bake.{Runs}
 use Rattle.bulk_model.specs.FileNames.{is_package_file, catalogue_file}
-use Rattle.bulk_model.specs.Journal.{Passes, IsPutOf, ArePuts, IsJournal, ended}
+use Rattle.bulk_model.specs.Journal.{Passes, IsPutOf, ArePuts, ended}
 use Rattle.bulk_model.specs.PlanView.{PlanView}
 use Rattle.bulk_model.specs.Results.{kept_at, is_good, package_in}
 use Rattle.bulk_model.specs.Sound.{IsSound}
@@ -24,14 +23,14 @@ use Rattle.pkg_record.specs.Laws.{HasRecord}
 use Rattle.pkg_record.specs.Stored.{record_in, package_of, packages_in}
 use Rattle.stale_check.specs.Kept.{kept_by}
 use Rattle.incremental_law.specs.Journals.{DeletesRest, built_records}
-use Rattle.incremental_law.specs.Runs.{IsRunOver, IsDone, kept_of_run, put_nodes}
+use Rattle.incremental_law.specs.Runs.{IsRunOver, IsDone, kept_of_run}
 use Rattle.incremental_example.specs.Ports.{right, need, tree, diamond, bot_package, left_package, right_package, top_package}
 use Rattle.incremental_example.specs.Diamond.{first, recipes, nothing, whole, save, own_reason, HoldsJust}
 use Rattle.record_laws.proofs.Storing.{other_put}
 use Rattle.incremental_example.proofs.Facts.{is_plan, is_orderly, is_tree, is_of_tree, agrees}
 use Rattle.incremental_example.proofs.Packages.{bot_recorded, left_recorded, right_recorded, top_recorded, its_job}
 use Rattle.incremental_example.proofs.Saving.{only_saved, all_saved}
-use Rattle.incremental_example.proofs.Still.{entries-empty, built, res, kept_status, built_status}
+use Rattle.incremental_example.proofs.Still.{entries-empty, built, res, built_status}
 
 pub nothing_there : packages_in nothing ≡ []
 nothing_there = ap (λ (es : List (List ℕ × List ℕ)). filter_map (λ file. option_and_then package_of (record_in nothing file)) (filter is_package_file (map (λ e. e.0) es))) entries-empty

@@ -1,11 +1,10 @@
 -- The packages of the diamond have records, their names differ, and which of them own reasons to go have.
-use Rattle.std.proofs.Common.{◌≡◌, ◌≢◌, ℕ, ◌<◌, ◌^◌, Bool, true, false, not, List, [], ◌∷◌, refl, ap, sym, subst, ◌∙◌, arith, Option, Some, None}
-use Rattle.std.specs.Prelude.{◌&&◌, codes, map, bytes_eq, Contains}
-use Rattle.std.specs.List.{list_any, AllByRecursion}
+use Rattle.std.proofs.Common.{◌≡◌, ℕ, Bool, true, false, not, List, [], ◌∷◌, refl, ap, sym, arith, None}
+use Rattle.std.specs.Prelude.{◌&&◌, codes, bytes_eq, Contains}
 use Rattle.std.specs.List.Sorted.{IsStrictlySortedBy}
 use Rattle.std.specs.Cmp.Lexicographic.{slice_cmp}
 use Rattle.std.specs.Ordering.{nat_cmp}
-use Rattle.std.proofs.lemmas.Bool.{and_parts, and_from, true≢false, false_from_ne_true}
+use Rattle.std.proofs.lemmas.Bool.{and_parts, and_from}
 use Rattle.std.proofs.lemmas.Slice.Eq.{bytes_eq-Decides}
 use Rattle.sha2.proofs.Facts256.{length-sha256}
 use Rattle.bulk_base.specs.Names.{IsPackageName, IsOrigin, IsNode}
@@ -13,12 +12,12 @@ use Rattle.bulk_base.proofs.Members.{Member, any_member, member_any}
 use Rattle.bulk_model.specs.declared.digest.Digest.{Digest}
 use Rattle.bulk_model.specs.declared.version.Version.TheVariants.{Two}
 use Rattle.bulk_model.specs.Digests.{digest_of, is_same}
-use Rattle.bulk_model.specs.Facts.{IsPackage, IsFileList, IsOptionList, IsRecordedList}
+use Rattle.bulk_model.specs.Facts.{IsFileList, IsOptionList}
 use Rattle.bulk_model.specs.Recipe.{recipe}
 use Rattle.bulk_model.specs.Views.{JobView, PackageView, node_of_job, node_of_package}
 use Rattle.pkg_record.specs.Laws.{IsDigest, HasRecord}
 use Rattle.pkg_record.proofs.Hashes.{sha256_bytes}
-use Rattle.incremental_example.specs.Ports.{name_of, origin_of, bot, left, right, top, bot_package, left_package, right_package, top_package}
+use Rattle.incremental_example.specs.Ports.{name_of, origin_of, right, bot_package, left_package, right_package, top_package}
 use Rattle.incremental_example.specs.Diamond.{has_job, own_reason}
 use Rattle.incremental_law.specs.Stores.{HasItsJob}
 

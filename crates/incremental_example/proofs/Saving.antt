@@ -1,7 +1,7 @@
 -- What saves of packages leave in a store.
-use Rattle.std.proofs.Common.{◌≡◌, ◌≢◌, ℕ, List, [], ◌∷◌, ap, sym, subst, ◌∙◌, inl, inr, ◌⊎◌, true}
+use Rattle.std.proofs.Common.{◌≢◌, List, [], ◌∷◌, ap, sym, subst, ◌∙◌, inl, inr, ◌⊎◌}
 use Rattle.std.specs.Prelude.{map, bytes_eq, Contains}
-use Rattle.std.specs.List.{IsDistinct, filter_map}
+use Rattle.std.specs.List.{IsDistinct}
 use Rattle.std.specs.FinMap.{insert}
 use Rattle.bulk_base.proofs.Members.{contains_here, contains_more, contains_cases, contains_none}
 use Rattle.outside.specs.Changes.{replayed}

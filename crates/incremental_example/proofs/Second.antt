@@ -1,19 +1,18 @@
 -- The second run: what it keeps, deletes and puts before it is stopped.
-use Rattle.std.proofs.Common.{◌≡◌, ◌≢◌, ℕ, zero, suc, Bool, true, false, not, List, [], ◌∷◌, ◌++◌, refl, ap, sym, subst, ◌∙◌, arith, Option, Some, None, inl, inr, ◌⊎◌}
-use Rattle.std.specs.Prelude.{◌&&◌, ◌||◌, codes, is_some, is_none, bytes_eq, Contains}
+use Rattle.std.proofs.Common.{◌≡◌, ◌≢◌, ℕ, zero, suc, Bool, true, false, not, List, [], ◌∷◌, refl, ap, sym, subst, ◌∙◌, arith, Option, Some, None, inl, inr, ◌⊎◌}
+use Rattle.std.specs.Prelude.{◌&&◌, ◌||◌, codes, is_some, bytes_eq, Contains}
 use Rattle.std.specs.List.{find, list_any}
 use Rattle.std.specs.FinMap.{remove}
 use Rattle.std.proofs.lemmas.Bool.{true≢false}
 use Rattle.std.proofs.lemmas.Slice.Eq.{bytes_eq-Decides}
 use Rattle.bulk_base.specs.declared.file.Switch.{Switch}
 use Rattle.bulk_base.proofs.Members.{Member, any_member, member_any, all_passes, find_contains, contains_find, contains_here, contains_cases, contains_none}
-use Rattle.outside.specs.Changes.{replayed}
 use Rattle.outside.specs.Contents.{Contents}
 use Rattle.outside.specs.declared.change.Change.{Change}
 use Rattle.bulk_model.specs.declared.depend.DepKind.TheVariants.{Build, Lib}
 use Rattle.bulk_model.specs.declared.depend.Recorded.{Recorded}
 use Rattle.bulk_model.specs.declared.plan.Kept.{Kept as KeptPackages}
-use Rattle.bulk_model.specs.declared.results.Status.TheVariants.{Kept, Built}
+use Rattle.bulk_model.specs.declared.results.Status.TheVariants.{Kept}
 use Rattle.bulk_model.specs.Among.{is_recorded_as}
 use Rattle.bulk_model.specs.Bake.{Runs, recorded}
 use Rattle.bulk_model.specs.FileNames.{package_file}
@@ -28,12 +27,12 @@ use Rattle.incremental_law.specs.Stores.{HasItsJob}
 use Rattle.incremental_law.specs.Journals.{DeletesRest, built_records}
 use Rattle.incremental_law.specs.Runs.{IsRunOver, kept_of_run}
 use Rattle.incremental_example.specs.Ports.{name_of, bot, left, right, top, need, tree, diamond, bot_package, left_package, right_package, top_package}
-use Rattle.incremental_example.specs.Diamond.{HaveOwnDigests, ports, first, second, concerned, recipes, nothing, whole, stopped, save, own_reason, HoldsJust, KeepsJust}
+use Rattle.incremental_example.specs.Diamond.{HaveOwnDigests, second, concerned, recipes, whole, stopped, save, own_reason, HoldsJust, KeepsJust}
 use Rattle.record_laws.proofs.Storing.{after_a_put, after_a_removal}
 use Rattle.stale_check.proofs.Passes.{fresh_is_greatest}
 use Rattle.incremental_example.proofs.Facts.{is_plan, is_orderly, is_tree, is_of_tree, agrees, within}
 use Rattle.incremental_example.proofs.Packages.{right_recorded, no_reason, its_job}
-use Rattle.incremental_example.proofs.Still.{res, kept_status}
+use Rattle.incremental_example.proofs.Still.{kept_status}
 use Rattle.incremental_example.proofs.First.{four, full, right_is}
 
 -- ---- what finds the packages at nodes

@@ -1,5 +1,5 @@
 -- What comes of a port without commands, and of a node whose dependencies have their packages.
-use Rattle.std.proofs.Common.{◌≡◌, ℕ, ◌<◌, Bool, true, false, List, [], ◌∷◌, ◌++◌, ap, sym, ◌∙◌, Option, Some, None, cond}
+use Rattle.std.proofs.Common.{◌≡◌, ℕ, ◌<◌, true, false, List, [], ◌++◌, ap, sym, ◌∙◌, Some, None}
 use Rattle.std.specs.Prelude.{codes, map, filter, is_some, if◌then◌else◌}
 use Rattle.std.specs.List.{list_all, filter_map}
 use Rattle.std.specs.Option.{option_map_or}
@@ -7,7 +7,6 @@ use Rattle.std.specs.Cmp.Lexicographic.{slice_cmp}
 use Rattle.std.specs.Ordering.{nat_cmp}
 use Rattle.std.specs.FinMap.{empty, entries, from_entries, len-entries, len-empty}
 use Rattle.std.proofs.lemmas.List.{nil_from_length}
-use Rattle.outside.specs.Contents.{Contents}
 use Rattle.bulk_base.specs.Path.{is_below}
 use Rattle.bulk_base.specs.declared.file.FileItem.{FileItem}
 use Rattle.bulk_base.specs.declared.file.Switch.{Switch}
