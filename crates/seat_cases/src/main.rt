@@ -1,4 +1,4 @@
-//! Cases of the claim table and of the desk at the store, also in threads: a line of standard input
+//! Cases of the claim table, also in threads: a line of standard input
 //! each, with fields between bars, and an answer a line.
 #![tactic(auto)]
 

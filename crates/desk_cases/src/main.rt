@@ -1,0 +1,56 @@
+//! Cases of the desk at the store, also in threads: a line of standard input each, with fields between
+//! bars, and an answer a line.
+#![tactic(auto)]
+
+mod bringing;
+mod crew;
+mod journals;
+mod two_seats;
+
+use case_text::{CaseError, shown_answer};
+use std::alloc::{AllocError, Global};
+use std::io;
+use std::sync::Wait;
+use std::thread::Threads;
+
+fn answer<R: Threads + Wait + Sync>(
+    rt: &R,
+    alloc: Global,
+    case: &[&str],
+    out: &mut Vec<u8>,
+) -> Result<(), CaseError> {
+    match case {
+        ["seats", plan, fails, steps] => two_seats::answer_steps(
+            rt, alloc, plan, fails, steps, out,
+        ),
+        ["crew", shape, count, seed, fails] => {
+            crew::answer_crew(rt, alloc, shape, count, seed, fails, out)
+        }
+        _ => Err(CaseError::Unfit),
+    }
+}
+
+/// The line of an answer. An empty line and one that begins with `#` are headings, and answer
+/// themselves.
+fn answer_line<R: Threads + Wait + Sync>(
+    rt: &R,
+    alloc: Global,
+    line: &str,
+) -> Result<String, AllocError> {
+    if line.is_empty() || line.starts_with('#') {
+        return line.to_string(alloc);
+    }
+    let fields: Vec<&str> = line.split('|').collect(alloc)?;
+    let mut out = Vec::new(alloc);
+    let answered = answer(rt, alloc, fields.as_slice(), &mut out);
+    shown_answer(alloc, answered, out.as_slice())
+}
+
+fn main(rt: HostRuntime) -> io::Result<()> {
+    let alloc = rt.alloc();
+    for line in rt.lines(alloc) {
+        let answer = answer_line(&rt, alloc, line?.as_str())?;
+        println!(rt; "{answer}")?;
+    }
+    Ok(())
+}
