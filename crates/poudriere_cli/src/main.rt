@@ -27,10 +27,12 @@ use crate::words::{WordsError, given_words};
 use bulk_base::{NoMemory, Text};
 use bulk_run::dry_run;
 use command_words::{Asked, read_words};
-use one_port::poudriere;
+use one_port::{Finished, poudriere};
 use outside::{OpenGate, Sink};
 use std::alloc::{AllocError, Global};
 use std::process::ExitCode;
+use std::sync::Wait;
+use std::thread::Threads;
 
 /// How many rooms there are.
 const ROOMS: u32 = 64;
@@ -97,8 +99,8 @@ fn asks_dry_run(alloc: Global, words: &[Text]) -> Result<bool, NoMemory>
 }
 
 /// Runs the command that words ask for; its exit status.
-fn run<K: Sink>(
-    rt: &HostRuntime,
+fn run<W: Threads + Wait + Sync, K: Sink>(
+    rt: &W,
     alloc: Global,
     words: &[Text],
     outside: Outside,
@@ -114,7 +116,13 @@ fn run<K: Sink>(
     if asks_dry_run(alloc, words)? {
         return Ok(dry_run(alloc, words, &mut tree, &mut store, out).status);
     }
-    Ok(poudriere(rt, alloc, words, &mut tree, store, rooms, &OpenGate, out).status)
+    let Finished {
+        status,
+        answer: _,
+        store: _,
+        rooms: _,
+    } = poudriere(rt, alloc, words, &mut tree, store, rooms, &OpenGate, out);
+    Ok(status)
 }
 
 fn main(rt: HostRuntime) -> ExitCode {
