@@ -152,10 +152,8 @@ fn hand(alloc: Global, nodes: &[(u64, u32)], turn: usize) -> Result<VecDeque<u32
     Ok(left)
 }
 
-/// Nodes dealt out to four workers, in an order that a seed gives.
-fn deal(alloc: Global, count: usize, seed: u64) -> Result<[VecDeque<u32>; 4], NoMemory> {
-    let nodes = shuffled(alloc, count, seed)?;
-    let nodes = nodes.as_slice();
+/// Nodes dealt out to four workers.
+fn deal(alloc: Global, nodes: &[(u64, u32)]) -> Result<[VecDeque<u32>; 4], NoMemory> {
     Ok([
         hand(alloc, nodes, 0)?,
         hand(alloc, nodes, 1)?,
@@ -200,16 +198,20 @@ fn push_closed(
     )
 }
 
+/// Has four workers bring the packages of nodes to the desk of a plan with this store.
 fn push_crew<R: Threads + Wait + Sync>(
     rt: &R,
     alloc: Global,
     store: MemStore,
     plan: &Shared<Plan>,
     kept: &Shared<Kept>,
-    hands: [VecDeque<u32>; 4],
+    nodes: &[(u64, u32)],
     out: &mut Vec<u8>,
 ) -> Result<(), NoMemory> {
-    match Desk::<MemStore, Untold>::new(alloc, store, plan.share()?, kept.share()?) {
+    let plan_there = plan.share()?;
+    let kept_there = kept.share()?;
+    let hands = deal(alloc, nodes)?;
+    match Desk::<MemStore, Untold>::new(alloc, store, plan_there, kept_there) {
         Ok((desk, seat)) => {
             let Desked { store, saved } = crew_of(
                 rt,
@@ -226,6 +228,21 @@ fn push_crew<R: Threads + Wait + Sync>(
     }
 }
 
+/// The same over a store of which the given calls fail.
+fn push_over<R: Threads + Wait + Sync>(
+    rt: &R,
+    alloc: Global,
+    plan: &Shared<Plan>,
+    kept: &Shared<Kept>,
+    nodes: &[(u64, u32)],
+    fails: &str,
+    out: &mut Vec<u8>,
+) -> Result<(), CaseError> {
+    let fails = fails_of(alloc, fails, "")?;
+    let store = MemStore::new(alloc, Sequence::new(alloc), fails)?;
+    Ok(push_crew(rt, alloc, store, plan, kept, nodes, out)?)
+}
+
 /// Four workers over a chain, a fan or groups of so many nodes, in an order that a seed gives, and over a
 /// store of which the given calls fail: how many nodes are saved, and what was done to the store.
 pub(crate) fn answer_crew<R: Threads + Wait + Sync>(
@@ -237,11 +254,10 @@ pub(crate) fn answer_crew<R: Threads + Wait + Sync>(
     fails: &str,
     out: &mut Vec<u8>,
 ) -> Result<(), CaseError> {
-    let fails = fails_of(alloc, fails, "")?;
-    let store = MemStore::new(alloc, Sequence::new(alloc), fails)?;
+    let seed = number_of(seed)?;
     let plan = plan_in(alloc, shape, count)?;
-    let hands = deal(alloc, plan.jobs.len(), number_of(seed)?)?;
+    let nodes = shuffled(alloc, plan.jobs.len(), seed)?;
     let kept = Shared::new(alloc, none_kept(alloc, &plan)?)?;
     let plan = Shared::new(alloc, plan)?;
-    Ok(push_crew(rt, alloc, store, &plan, &kept, hands, out)?)
+    push_over(rt, alloc, &plan, &kept, nodes.as_slice(), fails, out)
 }
