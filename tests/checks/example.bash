@@ -47,6 +47,20 @@ check_example_all_ports() {
   library_of_words
 }
 
+# A file of a port that nobody wants is changed: its package would go.
+check_example_dry_run() {
+  with_example
+  bulk lang/average@all text/hello
+  built lang/average@double double-average-2.0 lang/average@int int-average-2.0 text/hello hello-1.0
+  kept_as lang/average@double double-average-2.0 bin/average
+  kept_as lang/average@int int-average-2.0 bin/average
+  kept_as text/hello hello-1.0 bin/hello
+  printf '\n' >>tree/ports/text/hello/files/hello.c
+  bulk -n lang/average@all
+  says 0 'would delete 1' '  hello-1.0.pkg new-recipe' 'would keep 2' '  lang/average@double double-average-2.0' \
+    '  lang/average@int int-average-2.0' 'would build 0' 'ignored 0' 'would skip 0' 'total 2'
+}
+
 # library_of_words: the package of devel/words has a program, a header and an
 # archive, and another program can be linked with these two.
 library_of_words() {

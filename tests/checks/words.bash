@@ -32,7 +32,7 @@ check_words_that_are_no_text() {
   refuses "$usage"
 }
 
-# Flags are not read: each is a word that names no port.
+# Outside dry runs flags are not read: each is a word that names no port.
 check_no_origin() {
   ax 'DO_STAGE=cp work/hello stage/hello'
   local word long
@@ -63,10 +63,10 @@ check_first_refused_word() {
   refuses 'poudriere: no origin b/none'
   bulk a/x a/m@py27 b/none
   refuses 'poudriere: no flavor a/m@py27'
-  bulk -n a/x
-  refuses 'poudriere: no origin -n'
-  bulk a/x -n
-  refuses 'poudriere: no origin -n'
+  bulk -C a/x
+  refuses 'poudriere: no origin -C'
+  bulk a/x -T
+  refuses 'poudriere: no origin -T'
 }
 
 # Several ports are built in the byte order of their nodes, each once, in
