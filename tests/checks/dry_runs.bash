@@ -4,10 +4,10 @@
 # The packages that were made: the names and the marks, by node.
 declare -A name_of mark_of
 
-# made NODE NAME [OPTION=STATE ..] [-- KIND,NODE ..]: the store has the package
+# stored_as_made NODE NAME [OPTION=STATE ..] [-- KIND,NODE ..]: the store has the package
 # that the port at the node gives, which has no commands, with these options and
 # these dependencies, whose packages were made before; and it must stay.
-made() {
+stored_as_made() {
   local node=$1 name=$2 words=() depends=() recorded=() recipe depend at
   shift 2
   while [ $# -gt 0 ] && [ "$1" != -- ]; do
@@ -39,10 +39,10 @@ diamond() {
 
 # made_diamond [OPTION=STATE ..]: the packages of the diamond; a/bot has these options.
 made_diamond() {
-  made a/bot bot-1.0 "$@"
-  made a/left left-1.0 -- lib,a/bot
-  made a/right right-1.0 -- lib,a/bot
-  made a/top top-1.0 -- build,a/left run,a/right
+  stored_as_made a/bot bot-1.0 "$@"
+  stored_as_made a/left left-1.0 -- lib,a/bot
+  stored_as_made a/right right-1.0 -- lib,a/bot
+  stored_as_made a/top top-1.0 -- build,a/left run,a/right
 }
 
 check_dry_run_over_an_empty_store() {
@@ -77,9 +77,9 @@ check_dry_run_after_an_option_changed() {
 # of version 1, which has no recipe.
 check_dry_run_over_packages_that_fit_no_more() {
   diamond
-  made a/z z-1.0
+  stored_as_made a/z z-1.0
   stored y.pkg 'no record\n'
-  made a/bot bot-1.0
+  stored_as_made a/bot bot-1.0
   stored other.pkg ''
   cp packages/bot-1.0.pkg packages/other.pkg
   cp packages/bot-1.0.pkg ../want/other.pkg
@@ -94,7 +94,7 @@ check_dry_run_over_packages_that_fit_no_more() {
 
 check_dry_run_with_all_packages_asked() {
   diamond
-  made a/bot bot-1.0
+  stored_as_made a/bot bot-1.0
   stored y.pkg 'no record\n'
   bulk -n -c a/bot
   says 0 'would delete 2' '  bot-1.0.pkg asked' '  y.pkg asked' 'would keep 0' 'would build 1' \
